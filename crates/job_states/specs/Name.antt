@@ -1,0 +1,10 @@
+use Rattle.std.specs.Prelude.{◌≡◌, ◌<◌, ℕ, List, [], length}
+use Rattle.job_states.specs.Length.{IsName}
+use Rattle.job_states.specs.declared.text.NameFault.{NameFault}
+use Rattle.job_states.specs.declared.text.NameFault.TheVariants.{Empty, TooLong, NoMemory}
+
+-- why the text of these bytes isn't read as a name
+abbrev pub IsNameFault : List ℕ → NameFault → Type 0
+IsNameFault bytes Empty = bytes ≡ []
+IsNameFault bytes (TooLong len) = (len ≡ length bytes) × (128 < len)
+IsNameFault bytes NoMemory = IsName bytes

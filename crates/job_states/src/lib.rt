@@ -1,0 +1,29 @@
+//! The types that the job system's layers share: jobs and their states, transitions, commands, answers and refusals.
+//!
+//! A contract sees a [`Name`], a [`Text`] and [`Bytes`] as a list of bytes, and a [`List`] as the list of its items, so
+//! that two values are equal in a clause where they mean the same.
+#![tactic(auto)]
+
+mod answer;
+mod command;
+mod copied;
+mod item;
+mod job;
+mod list;
+mod moment;
+mod row;
+#[cfg(test)]
+mod tests;
+mod text;
+mod transition;
+
+pub use answer::{Answer, Made, Outcome, Polled, Refused};
+pub use command::{Arg, Command, Kind, NewJob};
+pub use copied::{Copied, NoMemory};
+pub use item::Item;
+pub use job::{Counted, JobId, JobRow, Limited, Pid, Stage, State};
+pub use list::List;
+pub use moment::{LAST, Moment, later};
+pub use row::{Mode, Row};
+pub use text::{Bytes, Name, NameFault, Text};
+pub use transition::{Counters, Put, Transaction, Transition};

@@ -1,0 +1,326 @@
+//! Streams and clocks in memory. They tell all that they hold, and fail where they are told to.
+ghost use Rattle.std.specs.Prelude.{◌≡◌, min, length, take, drop};
+
+use crate::{Clock, Failed, Sink, Source};
+use std::alloc::Global;
+use std::marker::Model;
+
+/// A source over bytes that never fails.
+#[derive(Drop)]
+pub struct SureSource {
+    bytes: Vec<u8>,
+    at: usize,
+}
+
+impl Model for SureSource {
+    ghost use Rattle.std.specs.Prelude.{◌≤◌, ℕ, List, length, drop};
+
+    ghost Value = { List ℕ };
+
+    ghost view = { λ s. drop s.at s.bytes.items };
+
+    ghost invariant = { λ s. s.at ≤ length s.bytes.items };
+}
+
+impl SureSource {
+    ghost use Rattle.std.specs.Prelude.{◌≡◌, min, length, take, drop};
+
+    /// A source that gives these bytes.
+    pub fn new(bytes: Vec<u8>) -> Self
+        ensures { result ≡ bytes.items }
+    {
+        SureSource { bytes, at: 0 }
+    }
+
+    fn take_front(&mut self, buf: &mut [u8]) -> usize
+        ensures count { result ≡ min (length self.old) (length buf.old) }
+        ensures front { take result buf.new ≡ take result self.old }
+        ensures behind { drop result buf.new ≡ drop result buf.old }
+        ensures rest { self.new ≡ drop result self.old }
+    {
+        let n = copy_front(&self.bytes[self.at..], buf);
+        self.at += n;
+        n
+    }
+}
+
+impl Source for SureSource {
+    ghost use Rattle.std.specs.Prelude.{◌≡◌, Some, IsOkAnd, min, length, take, drop};
+
+    ghost left = { λ s. Some s };
+
+    ghost faults = { λ _. 0 };
+
+    fn read(&mut self, buf: &mut [u8]) -> Result<usize, Failed>
+        ensures count { IsOkAnd result (λ n. n ≡ min (length self.old) (length buf.old)) }
+        ensures front { IsOkAnd result (λ n. take n buf.new ≡ take n self.old) }
+        ensures behind { IsOkAnd result (λ n. drop n buf.new ≡ drop n buf.old) }
+        ensures rest { IsOkAnd result (λ n. self.new ≡ drop n self.old) }
+    {
+        Ok(self.take_front(buf))
+    }
+}
+
+/// A source over bytes whose listed calls fail.
+#[derive(Drop)]
+pub struct MemSource {
+    source: SureSource,
+    calls: Calls,
+}
+
+impl Model for MemSource {
+    ghost use Rattle.sq_outside.specs.Memory.{MemoryStream};
+
+    ghost Value = { MemoryStream };
+
+    ghost view = { λ s. record { bytes = s.source; fail = s.calls.fail.items; calls = s.calls.made; faults = s.calls.failed } };
+}
+
+impl MemSource {
+    ghost use Rattle.std.specs.Prelude.{◌≡◌};
+    ghost use Rattle.sq_outside.specs.Memory.{untouched};
+
+    /// A source that gives these bytes. `fail` lists the numbers of the calls that fail, counted from 1.
+    pub fn new(bytes: Vec<u8>, fail: Vec<u64>) -> Self
+        ensures { result ≡ untouched bytes.items fail.items }
+    {
+        MemSource {
+            source: SureSource::new(bytes),
+            calls: Calls::new(fail),
+        }
+    }
+}
+
+impl Source for MemSource {
+    ghost use Rattle.std.specs.Prelude.{◌≡◌, ◌↔◌, Some, min, length, take, drop, IsErr, IfOk, OnErr, MatchResult};
+    ghost use Rattle.sq_outside.specs.Memory.{FailsNext, called, failed};
+
+    ghost left = { λ s. Some s.bytes };
+
+    ghost faults = { λ s. s.faults };
+
+    fn read(&mut self, buf: &mut [u8]) -> Result<usize, Failed>
+        ensures fails { IsErr result ↔ FailsNext self.old }
+        ensures count { IfOk result (λ n. n ≡ min (length self.old.bytes) (length buf.old)) }
+        ensures front { IfOk result (λ n. take n buf.new ≡ take n self.old.bytes) }
+        ensures behind { IfOk result (λ n. drop n buf.new ≡ drop n buf.old) }
+        ensures rest { MatchResult result (λ n. self.new ≡ called self.old (drop n self.old.bytes)) (λ _. self.new ≡ failed self.old) }
+        ensures buffer_kept { OnErr result (buf.new ≡ buf.old) }
+    {
+        if self.calls.next_fails() {
+            self.calls.count_failure();
+            return Err(Failed);
+        }
+        Ok(self.source.take_front(buf))
+    }
+}
+
+/// A sink that keeps what was written, and whose listed calls fail.
+#[derive(Drop)]
+pub struct MemSink {
+    written: Vec<u8>,
+    calls: Calls,
+}
+
+impl Model for MemSink {
+    ghost use Rattle.sq_outside.specs.Memory.{MemoryStream};
+
+    ghost Value = { MemoryStream };
+
+    ghost view = { λ s. record { bytes = s.written.items; fail = s.calls.fail.items; calls = s.calls.made; faults = s.calls.failed } };
+}
+
+impl MemSink {
+    ghost use Rattle.std.specs.Prelude.{◌≡◌, []};
+    ghost use Rattle.sq_outside.specs.Memory.{untouched};
+
+    /// A sink with nothing written. `fail` lists the numbers of the calls that fail, counted from 1.
+    pub fn new(alloc: Global, fail: Vec<u64>) -> Self
+        ensures { result ≡ untouched [] fail.items }
+    {
+        MemSink {
+            written: Vec::new(alloc),
+            calls: Calls::new(fail),
+        }
+    }
+
+    /// What was written.
+    pub fn bytes(&self) -> &[u8]
+        ensures { result.now ≡ self.now.bytes }
+    {
+        &self.written
+    }
+}
+
+impl Sink for MemSink {
+    ghost use Rattle.std.specs.Prelude.{◌≡◌, ◌++◌, Some, length, IsErr, IfOk, MatchResult};
+    ghost use Rattle.sq_outside.specs.Memory.{FailsNext, called, failed};
+
+    ghost written = { λ s. Some s.bytes };
+
+    ghost faults = { λ s. s.faults };
+
+    // A call that isn't listed fails where there is no memory.
+    fn write(&mut self, piece: &[u8]) -> Result<usize, Failed>
+        ensures fails { FailsNext self.old → IsErr result }
+        ensures count { IfOk result (λ n. n ≡ length piece.now) }
+        ensures rest { MatchResult result (λ _. self.new ≡ called self.old (self.old.bytes ++ piece.now)) (λ _. self.new ≡ failed self.old) }
+    {
+        if self.calls.next_fails() || self.written.extend_from_slice(piece).is_err() {
+            self.calls.count_failure();
+            return Err(Failed);
+        }
+        Ok(piece.len())
+    }
+}
+
+/// A clock that gives the moments that it was made with.
+#[derive(Drop)]
+pub struct MemClock {
+    moments: Vec<u64>,
+    at: usize,
+}
+
+impl Model for MemClock {
+    ghost use Rattle.std.specs.Prelude.{◌≤◌, ℕ, List, length, drop};
+    ghost use Rattle.sq_outside.specs.Moments.{AreMoments};
+
+    ghost Value = { List ℕ };
+
+    ghost view = { λ c. drop c.at c.moments.items };
+
+    ghost invariant = { λ c. (c.at ≤ length c.moments.items) × AreMoments c.moments.items };
+}
+
+impl MemClock {
+    ghost use Rattle.std.specs.Prelude.{◌≡◌};
+    ghost use Rattle.sq_outside.specs.Moments.{AreMoments};
+
+    /// A clock that gives these moments in turn, then the last one again, and 0 where there is none.
+    pub fn new(moments: Vec<u64>) -> Self
+        requires { AreMoments moments.items }
+        ensures { result ≡ moments.items }
+    {
+        MemClock { moments, at: 0 }
+    }
+}
+
+impl Clock for MemClock {
+    ghost use Rattle.std.specs.Prelude.{◌≡◌, ◌≤◌, Some};
+    ghost use Rattle.sq_outside.specs.Moments.{first_moment, later_moments};
+    ghost use Rattle.sq_outside.specs.declared.clock.TheConstants.{LAST};
+
+    ghost moments = { λ c. Some c };
+
+    fn now(&mut self) -> u64
+        ensures bounded { result ≤ LAST }
+        ensures first { result ≡ first_moment self.old }
+        ensures rest { self.new ≡ later_moments self.old }
+    {
+        match &self.moments[self.at..] {
+            [] => 0,
+            [last] => *last,
+            [first, _, ..] => {
+                self.at += 1;
+                *first
+            }
+        }
+    }
+}
+
+/// Which calls fail, and how many have.
+#[derive(Drop)]
+struct Calls {
+    fail: Vec<u64>,
+    made: u64,
+    failed: u64,
+}
+
+impl Calls {
+    ghost use Rattle.std.specs.Prelude.{◌≡◌, ◌↔◌, IsTrue, Contains};
+    ghost use Rattle.sq_outside.specs.Fault.{raised};
+
+    fn new(fail: Vec<u64>) -> Self
+        ensures list { result.fail ≡ fail }
+        ensures made { result.made ≡ 0 }
+        ensures failed { result.failed ≡ 0 }
+    {
+        Calls {
+            fail,
+            made: 0,
+            failed: 0,
+        }
+    }
+
+    // Counts the call that begins. Is it one of those that fail?
+    fn next_fails(&mut self) -> bool
+        ensures fails { IsTrue result ↔ Contains self.old.fail.items (raised self.old.made) }
+        ensures list { self.new.fail ≡ self.old.fail }
+        ensures made { self.new.made ≡ raised self.old.made }
+        ensures failed { self.new.failed ≡ self.old.failed }
+    {
+        self.made = self.made.saturating_add(1);
+        self.fail.contains(&self.made)
+    }
+
+    fn count_failure(&mut self)
+        ensures list { self.new.fail ≡ self.old.fail }
+        ensures made { self.new.made ≡ self.old.made }
+        ensures failed { self.new.failed ≡ raised self.old.failed }
+    {
+        self.failed = self.failed.saturating_add(1);
+    }
+}
+
+// Copies as many bytes as there are and as fit.
+pub(crate) fn copy_front(bytes: &[u8], buf: &mut [u8]) -> usize
+    ensures count { result ≡ min (length bytes.now) (length buf.old) }
+    ensures front { take result buf.new ≡ take result bytes.now }
+    ensures behind { drop result buf.new ≡ drop result buf.old }
+{
+    let n = bytes.len().min(buf.len());
+    buf[..n].copy_from_slice(&bytes[..n]);
+    n
+}
+
+#[cfg(test)]
+mod tests {
+    use super::*;
+    use std::test::Fail;
+
+    #[test]
+    fn listed_reads_fail_and_take_nothing(rt: HostRuntime) -> Result<(), Fail> {
+        let mut source = MemSource::new(vec![in rt.alloc(); 1, 2, 3]?, vec![in rt.alloc(); 2]?);
+        let mut buf = [9; 2];
+        assert_eq!(rt; source.read(&mut buf), Ok(2));
+        assert_eq!(rt; buf, [1, 2]);
+        assert_eq!(rt; source.read(&mut buf), Err(Failed));
+        assert_eq!(rt; source.read(&mut buf), Ok(1));
+        assert_eq!(rt; buf, [3, 2]);
+        assert_eq!(rt; source.read(&mut buf), Ok(0));
+
+        let mut sure = SureSource::new(vec![in rt.alloc(); 7]?);
+        assert_eq!(rt; sure.read(&mut buf), Ok(1));
+        assert_eq!(rt; sure.read(&mut buf), Ok(0));
+        Ok(())
+    }
+
+    #[test]
+    fn listed_writes_fail_and_the_others_are_kept(rt: HostRuntime) -> Result<(), Fail> {
+        let mut sink = MemSink::new(rt.alloc(), vec![in rt.alloc(); 1, 3]?);
+        assert_eq!(rt; sink.write(b"a"), Err(Failed));
+        assert_eq!(rt; sink.write(b"bc"), Ok(2));
+        assert_eq!(rt; sink.write(b"d"), Err(Failed));
+        assert_eq!(rt; sink.write(b"e"), Ok(1));
+        assert_eq!(rt; sink.bytes(), b"bce".as_slice());
+        Ok(())
+    }
+
+    #[test]
+    fn the_last_moment_comes_again(rt: HostRuntime) -> Result<(), Fail> {
+        let mut clock = MemClock::new(vec![in rt.alloc(); 5, 4]?);
+        assert_eq!(rt; [clock.now(), clock.now(), clock.now()], [5, 4, 4]);
+        assert_eq!(rt; MemClock::new(Vec::new(rt.alloc())).now(), 0);
+        Ok(())
+    }
+}
