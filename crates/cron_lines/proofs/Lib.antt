@@ -1,0 +1,5 @@
+pub mod FieldLemmas
+pub mod WordLemmas
+pub mod RunTimeLemmas
+pub mod SpellingLemmas
+pub mod PhraseLemmas
