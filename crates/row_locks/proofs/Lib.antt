@@ -1,0 +1,4 @@
+pub mod Membership
+pub mod Orders
+pub mod Refusals
+pub mod Takings

@@ -1,0 +1,66 @@
+-- The rows that seats hold.
+use Rattle.std.specs.Prelude.{◌≡◌, ◌≢◌, ℕ, ◌≤◌, List, ◌++◌, map, Contains, IsPermutation}
+use Rattle.std.specs.declared.cmp.Ordering.TheVariants.{Less}
+use Rattle.job_states.specs.declared.row.Row.{Row}
+use Rattle.job_states.specs.declared.row.Mode.{Mode}
+use Rattle.job_states.specs.declared.row.Mode.TheVariants.{Alone, Shared}
+use Rattle.row_locks.specs.RowOrder.{row_cmp}
+
+-- a row that a seat holds
+pub record Lock : Type 0 where
+  pub row : Row
+  pub mode : Mode
+  pub seat : ℕ
+
+abbrev pub lock : ℕ → Row → Mode → Lock
+lock seat row mode = record { row = row; mode = mode; seat = seat }
+
+abbrev pub Holds : List Lock → (seat : ℕ) → Row → Mode → Type 0
+Holds locks seat row mode = Contains locks (lock seat row mode)
+
+abbrev pub HoldsAll : List Lock → (seat : ℕ) → List (Row × Mode) → Type 0
+HoldsAll locks seat rows = (row : Row) (mode : Mode) → Contains rows (row, mode) → Holds locks seat row mode
+
+-- two seats can hold one row in these modes
+abbrev pub Fits : Mode → Mode → Type 0
+Fits Shared Shared = Unit {0}
+Fits Shared Alone = ⊥
+Fits Alone mode = ⊥
+
+-- each row that is in both is shared in both
+abbrev pub AreCompatible : List (Row × Mode) → List (Row × Mode) → Type 0
+AreCompatible xs ys = (row : Row) (m n : Mode) → Contains xs (row, m) → Contains ys (row, n) → Fits m n
+
+-- two seats that hold one row share it
+abbrev pub AreExclusive : List Lock → Type 0
+AreExclusive locks = (a b : ℕ) (row : Row) (m n : Mode) → a ≢ b → Holds locks a row m → Holds locks b row n → Fits m n
+
+-- the seat `by` is another one, and holds the row in a mode that doesn't fit
+abbrev pub IsHeldAgainst : List Lock → (seat : ℕ) → Row → Mode → (by : ℕ) → Type 0
+IsHeldAgainst locks seat row mode by = (held : Mode) × Holds locks by row held × (by ≢ seat) × ¬ Fits held mode
+
+-- no other seat holds the row in a mode that doesn't fit
+abbrev pub IsFree : List Lock → (seat : ℕ) → Row → Mode → Type 0
+IsFree locks seat row mode = (by : ℕ) → ¬ IsHeldAgainst locks seat row mode by
+
+-- each of the rows is free
+abbrev pub AreFree : List Lock → (seat : ℕ) → List (Row × Mode) → Type 0
+AreFree locks seat rows = (row : Row) (mode : Mode) → Contains rows (row, mode) → IsFree locks seat row mode
+
+-- one of the rows that are asked for is this one, and the seat `by` holds it against the mode that is asked for
+abbrev pub IsRefusedAt : List Lock → (seat : ℕ) → List (Row × Mode) → Row → (by : ℕ) → Type 0
+IsRefusedAt locks seat rows row by = (mode : Mode) × Contains rows (row, mode) × IsHeldAgainst locks seat row mode by
+
+-- the first such row, and the smallest seat that holds it so
+pub record IsFirstRefusal (locks : List Lock) (seat : ℕ) (rows : List (Row × Mode)) (row : Row) (by : ℕ) : Type 0 where
+  pub refused : IsRefusedAt locks seat rows row by
+  pub first_row : (other : Row) (holder : ℕ) → IsRefusedAt locks seat rows other holder → row_cmp other row ≢ Less
+  pub least_seat : (holder : ℕ) → IsRefusedAt locks seat rows row holder → by ≤ holder
+
+-- the locks by which a seat holds these rows
+abbrev pub locks_of : ℕ → List (Row × Mode) → List Lock
+locks_of seat rows = map (λ r. lock seat r.0 r.1) rows
+
+-- the old locks, and behind them those of the rows in some order
+abbrev pub AddsRows : (old new : List Lock) → (seat : ℕ) → List (Row × Mode) → Type 0
+AddsRows old new seat rows = (added : List (Row × Mode)) × IsPermutation rows added × (new ≡ old ++ locks_of seat added)

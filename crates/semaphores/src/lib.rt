@@ -1,0 +1,10 @@
+//! The arithmetic of concurrency limits: a semaphore's permits, generations and expiry. No call takes memory.
+//!
+//! A contract sees a [`Sem`] as its four numbers.
+#![tactic(auto)]
+
+mod sem;
+#[cfg(test)]
+mod tests;
+
+pub use sem::{Sem, expired, give, gives, take};
