@@ -1,0 +1,20 @@
+use Rattle.std.proofs.Common.{refl, arith, ◌∙◌, ap, sym}
+use Rattle.http_wire.proofs.HeadLemmas.{head_of, refused_head, fault_of_head}
+use Rattle.http_wire.specs.Head.{path_of, query_of}
+use Rattle.http_wire.proofs.head.read_head_at.Goals as goal
+
+pub returns-in_ok-method_of-in-Ok-Complete-clause-head : goal.returns-in_ok-method_of-in-Ok-Complete-clause-head
+returns-in_ok-method_of-in-Ok-Complete-clause-head c =
+    let told = rw c.in-Ok-Complete.field-0-is at c.in-Ok-Complete.ensures in
+    head_of c.args.front.now c.parse_request.new.headers c.in-Ok-Complete.found told.complete told.within
+    (omega (arith, c.parse_request.auto.headers)) c.requires _ refl (sym (rw c.of-target.ensures at c.in-Ok.ensures))
+    (c.in_ok-method_of-in-Ok-Complete.ensures ∙ c.of.ensures)
+    (c.in_ok-path-in-Ok-Complete.ensures.path ∙ ap path_of c.of-target.ensures)
+    (c.in_ok-path-in-Ok-Complete.ensures.query ∙ ap query_of c.of-target.ensures)
+
+pub returns-in-Err-body_length-clause-fault : goal.returns-in-Err-body_length-clause-fault
+returns-in-Err-body_length-clause-fault c =
+    let told = rw c.in-Ok-Complete.field-0-is at c.in-Ok-Complete.ensures in
+    rw c.at.ensures (fault_of_head c.args.at c.args.front.now c.in-Err-body_length.refusal
+    (refused_head c.args.front.now c.parse_request.new.headers c.in-Ok-Complete.found told.complete told.within
+    (omega (arith, c.parse_request.auto.headers)) c.requires _ (rw c.of-target.ensures at c.in-Err-body_length.ensures)))

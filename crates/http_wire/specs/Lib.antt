@@ -1,0 +1,5 @@
+pub mod Ahead
+pub mod Front
+pub mod Head
+pub mod Reply
+pub mod Stream

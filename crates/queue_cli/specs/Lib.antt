@@ -1,0 +1,4 @@
+pub mod Outcome
+pub mod Service
+pub mod Status
+pub mod Streams

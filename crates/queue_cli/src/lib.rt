@@ -1,0 +1,11 @@
+//! The program as one call: commands over an input, an output and a clock.
+#![tactic(auto)]
+
+mod command;
+mod exec;
+mod outcome;
+#[cfg(test)]
+mod tests;
+
+pub use command::run;
+pub use outcome::End;

@@ -1,0 +1,135 @@
+use crate::run;
+use sq_outside::{Failed, MemClock, MemSink, MemSource, Sink, Source, SureSource};
+use std::alloc::Global;
+use std::test::Fail;
+
+const FIRST: &[u8] =
+    b"POST /jobs HTTP/1.1\r\nContent-Length: 31\r\n\r\n{\"job_class\":\"A\",\"job_id\":\"j1\"}";
+
+const CREATED: &[u8] =
+    b"HTTP/1.1 201 Created\r\nContent-Type: application/json\r\nContent-Length: 24\r\n\r\n{\"id\":1,\"state\":\"ready\"}";
+
+const CREATED_NEXT: &[u8] =
+    b"HTTP/1.1 201 Created\r\nContent-Type: application/json\r\nContent-Length: 24\r\n\r\n{\"id\":2,\"state\":\"ready\"}";
+
+const NOT_BUILT: &[u8] =
+    b"HTTP/1.1 501 Not Implemented\r\nContent-Type: application/json\r\nContent-Length: 21\r\n\r\n{\"error\":\"not_built\"}";
+
+const CUT: &[u8] =
+    b"HTTP/1.1 400 Bad Request\r\nContent-Type: application/json\r\nContent-Length: 31\r\n\r\n{\"at\":74,\"error\":\"bad_request\"}";
+
+// Gives one byte at a time.
+#[derive(Drop)]
+struct Narrow(MemSource);
+
+impl Source for Narrow {
+    ghost use Rattle.std.specs.Prelude.{Some};
+
+    ghost left = { λ s. Some s.0.bytes };
+
+    ghost faults = { λ s. s.0.faults };
+
+    fn read(&mut self, buf: &mut [u8]) -> Result<usize, Failed> {
+        let room = buf.len().min(1);
+        self.0.read(&mut buf[..room])
+    }
+}
+
+fn byte_by_byte(alloc: Global, bytes: &[u8], fail: &[u64]) -> Result<Narrow, Fail> {
+    let fail = Vec::from_slice(alloc, fail)?;
+    Ok(Narrow(MemSource::new(Vec::from_slice(alloc, bytes)?, fail)))
+}
+
+fn joined(alloc: Global, parts: &[&[u8]]) -> Result<Vec<u8>, Fail> {
+    let mut whole = Vec::new(alloc);
+    for part in parts {
+        whole.extend_from_slice(part)?;
+    }
+    Ok(whole)
+}
+
+fn words_of(alloc: Global, names: &[&str]) -> Result<Vec<String>, Fail> {
+    let mut words = Vec::new(alloc);
+    for name in names {
+        words.push(String::from_str(alloc, name)?)?;
+    }
+    Ok(words)
+}
+
+// The status and the output of a run.
+fn ran<S: Source>(
+    alloc: Global,
+    words: &[&str],
+    source: &mut S,
+    sink: &mut MemSink,
+) -> Result<u8, Fail> {
+    let mut clock = MemClock::new(vec![in alloc; 5, 6, 7]?);
+    let words = words_of(alloc, words)?;
+    Ok(run(alloc, &words, source, sink, &mut clock))
+}
+
+#[test]
+fn requests_are_answered_in_turn(rt: HostRuntime) -> Result<(), Fail> {
+    let alloc = rt.alloc();
+    let not_built = b"POST /jobs HTTP/1.1\r\nContent-Length: 2\r\n\r\n{}";
+    let three = joined(alloc, &[FIRST, b"GET / HTTP/1.1\r\n\r\n", FIRST])?;
+    let answers = joined(alloc, &[CREATED, NOT_BUILT, CREATED_NEXT])?;
+    let cut = joined(alloc, &[FIRST, &FIRST[..60]])?;
+    let told = joined(alloc, &[CREATED, CUT])?;
+    for (stream, expected, status) in [
+        (b"".as_slice(), b"".as_slice(), 0),
+        (FIRST, CREATED, 0),
+        (not_built, NOT_BUILT, 0),
+        (b"GET / HTTP/1.1\r\n\r\n", NOT_BUILT, 0),
+        (&three, &answers, 0),
+        (&cut, &told, 1),
+    ] {
+        let mut whole = MemSink::new(alloc, Vec::new(alloc));
+        let mut source = SureSource::new(Vec::from_slice(alloc, stream)?);
+        assert_eq!(rt; ran(alloc, &["exec"], &mut source, &mut whole)?, status);
+        assert_eq!(rt; whole.bytes(), expected);
+
+        let mut pieces = MemSink::new(alloc, Vec::new(alloc));
+        let mut source = byte_by_byte(alloc, stream, &[])?;
+        assert_eq!(rt; ran(alloc, &["exec"], &mut source, &mut pieces)?, status);
+        assert_eq!(rt; pieces.bytes(), expected);
+    }
+    Ok(())
+}
+
+#[test]
+fn other_words_are_refused(rt: HostRuntime) -> Result<(), Fail> {
+    let alloc = rt.alloc();
+    for words in [[].as_slice(), &["exec", "x"], &["Exec"]] {
+        let mut sink = MemSink::new(alloc, Vec::new(alloc));
+        let mut source = SureSource::new(Vec::from_slice(alloc, FIRST)?);
+        assert_eq!(rt; ran(alloc, words, &mut source, &mut sink)?, 2);
+        assert_eq!(rt; sink.bytes(), b"usage\n".as_slice());
+    }
+    Ok(())
+}
+
+#[test]
+fn streams_that_fail_end_the_run(rt: HostRuntime) -> Result<(), Fail> {
+    let alloc = rt.alloc();
+    for call in 1..=3 {
+        let mut sink = MemSink::new(alloc, Vec::new(alloc));
+        let mut source = byte_by_byte(alloc, FIRST, &[call])?;
+        assert_eq!(rt; ran(alloc, &["exec"], &mut source, &mut sink)?, 4);
+        assert!(rt; sink.bytes().is_empty());
+    }
+
+    // The call behind the whole request.
+    let mut sink = MemSink::new(alloc, Vec::new(alloc));
+    let mut source = byte_by_byte(alloc, FIRST, &[75])?;
+    assert_eq!(rt; ran(alloc, &["exec"], &mut source, &mut sink)?, 4);
+    assert_eq!(rt; sink.bytes(), CREATED);
+
+    for call in 1..=2 {
+        let mut sink = MemSink::new(alloc, vec![in alloc; call]?);
+        let mut source = SureSource::new(Vec::from_slice(alloc, FIRST)?);
+        assert_eq!(rt; ran(alloc, &["exec"], &mut source, &mut sink)?, 5);
+        assert!(rt; CREATED.starts_with(sink.bytes()) && sink.bytes().len() < CREATED.len());
+    }
+    Ok(())
+}

@@ -1,0 +1,14 @@
+//! The job system's HTTP service over a list of jobs: what a request asks for, and what is replied.
+#![tactic(auto)]
+
+mod asked;
+mod job_list;
+mod replies;
+mod service;
+#[cfg(test)]
+mod tests;
+
+pub use asked::MAX_ENVELOPE;
+pub use job_list::JobList;
+pub use replies::fault_reply;
+pub use service::answer;
