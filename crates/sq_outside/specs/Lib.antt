@@ -1,3 +1,11 @@
+pub mod Disk
 pub mod Fault
+pub mod File
+pub mod Gated
 pub mod Memory
+pub mod MemoryDisk
+pub mod MemoryDiskView
+pub mod MemoryFile
+pub mod MemoryFileView
 pub mod Moments
+pub mod StoreView

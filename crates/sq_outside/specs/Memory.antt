@@ -1,5 +1,5 @@
 -- A stream in memory as contracts see it.
-use Rattle.std.specs.Prelude.{◌≡◌, ◌≢◌, ◌↔◌, ℕ, List, drop, Result, Contains, IsErr, MatchResult}
+use Rattle.std.specs.Prelude.{ℕ, List, Contains}
 use Rattle.sq_outside.specs.Fault.{raised}
 
 pub record MemoryStream : Type 0 where

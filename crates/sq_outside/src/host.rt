@@ -1,10 +1,10 @@
 //! The real outside. Streams tell no content here, and each `Err` of the real thing raises the count of faults.
-ghost use Rattle.std.specs.Prelude.{◌≡◌, ◌≤◌, IfOk};
+ghost use Rattle.std.specs.Prelude.{◌≡◌, ◌≤◌, length, drop, IfOk, OnErr};
 ghost use Rattle.sq_outside.specs.declared.clock.TheConstants.{LAST};
 
 use crate::memory::copy_front;
 use crate::{Clock, Failed, LAST, Sink, Source};
-use std::io::{Read, Write};
+use std::io::{self, Read, Write};
 use std::rt;
 use std::time::{SystemTime, UNIX_EPOCH};
 
@@ -31,18 +31,27 @@ impl<R: Read> Source for StreamSource<R> {
 
     ghost faults = { λ s. s.faults };
 
-    // No reader says what it leaves behind the bytes that it gave, so they come by way of a buffer of its own.
     fn read(&mut self, buf: &mut [u8]) -> Result<usize, Failed> {
-        let mut own = [0; 8192];
-        let room = buf.len().min(own.len());
-        match self.reader.read(&mut own[..room]) {
-            Ok(n) => Ok(copy_front(&own[..n], buf)),
+        match read_some(&mut self.reader, buf) {
+            Ok(n) => Ok(n),
             Err(_) => {
                 self.faults = self.faults.saturating_add(1);
                 Err(Failed)
             }
         }
     }
+}
+
+// No reader says what it leaves behind the bytes that it gave, so they come by way of a buffer of its own.
+pub(crate) fn read_some<R: Read>(reader: &mut R, buf: &mut [u8]) -> io::Result<usize>
+    ensures within { IfOk result (λ n. n ≤ length buf.old) }
+    ensures behind { IfOk result (λ n. drop n buf.new ≡ drop n buf.old) }
+    ensures kept { OnErr result (buf.new ≡ buf.old) }
+{
+    let mut own = [0; 8192];
+    let room = own.len().min(buf.len());
+    let n = reader.read(&mut own[..room])?;
+    Ok(copy_front(&own[..n], buf))
 }
 
 /// A sink over a writer. It doesn't flush: a writer with a buffer is flushed by its owner.
@@ -119,7 +128,6 @@ impl<R: rt::Clock> Clock for HostClock<R> {
 #[cfg(test)]
 mod tests {
     use super::*;
-    use std::io;
     use std::test::Fail;
 
     // Fails, gives or takes as much as fits, and then is at its end: nothing more is given or taken.

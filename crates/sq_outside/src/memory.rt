@@ -1,6 +1,7 @@
 //! Streams and clocks in memory. They tell all that they hold, and fail where they are told to.
 ghost use Rattle.std.specs.Prelude.{◌≡◌, min, length, take, drop};
 
+use crate::counts::Counts;
 use crate::{Clock, Failed, Sink, Source};
 use std::alloc::Global;
 use std::marker::Model;
@@ -73,7 +74,7 @@ impl Model for MemSource {
 
     ghost Value = { MemoryStream };
 
-    ghost view = { λ s. record { bytes = s.source; fail = s.calls.fail.items; calls = s.calls.made; faults = s.calls.failed } };
+    ghost view = { λ s. record { bytes = s.source; fail = s.calls.fail.items; calls = s.calls.counts.made; faults = s.calls.counts.failed } };
 }
 
 impl MemSource {
@@ -108,7 +109,7 @@ impl Source for MemSource {
         ensures buffer_kept { OnErr result (buf.new ≡ buf.old) }
     {
         if self.calls.next_fails() {
-            self.calls.count_failure();
+            self.calls.counts.count_failure();
             return Err(Failed);
         }
         Ok(self.source.take_front(buf))
@@ -127,7 +128,7 @@ impl Model for MemSink {
 
     ghost Value = { MemoryStream };
 
-    ghost view = { λ s. record { bytes = s.written.items; fail = s.calls.fail.items; calls = s.calls.made; faults = s.calls.failed } };
+    ghost view = { λ s. record { bytes = s.written.items; fail = s.calls.fail.items; calls = s.calls.counts.made; faults = s.calls.counts.failed } };
 }
 
 impl MemSink {
@@ -167,7 +168,7 @@ impl Sink for MemSink {
         ensures rest { MatchResult result (λ _. self.new ≡ called self.old (self.old.bytes ++ piece.now)) (λ _. self.new ≡ failed self.old) }
     {
         if self.calls.next_fails() || self.written.extend_from_slice(piece).is_err() {
-            self.calls.count_failure();
+            self.calls.counts.count_failure();
             return Err(Failed);
         }
         Ok(piece.len())
@@ -232,8 +233,7 @@ impl Clock for MemClock {
 #[derive(Drop)]
 struct Calls {
     fail: Vec<u64>,
-    made: u64,
-    failed: u64,
+    counts: Counts,
 }
 
 impl Calls {
@@ -242,33 +242,24 @@ impl Calls {
 
     fn new(fail: Vec<u64>) -> Self
         ensures list { result.fail ≡ fail }
-        ensures made { result.made ≡ 0 }
-        ensures failed { result.failed ≡ 0 }
+        ensures made { result.counts.made ≡ 0 }
+        ensures failed { result.counts.failed ≡ 0 }
     {
         Calls {
             fail,
-            made: 0,
-            failed: 0,
+            counts: Counts::new(),
         }
     }
 
     // Counts the call that begins. Is it one of those that fail?
     fn next_fails(&mut self) -> bool
-        ensures fails { IsTrue result ↔ Contains self.old.fail.items (raised self.old.made) }
+        ensures fails { IsTrue result ↔ Contains self.old.fail.items (raised self.old.counts.made) }
         ensures list { self.new.fail ≡ self.old.fail }
-        ensures made { self.new.made ≡ raised self.old.made }
-        ensures failed { self.new.failed ≡ self.old.failed }
+        ensures made { self.new.counts.made ≡ raised self.old.counts.made }
+        ensures failed { self.new.counts.failed ≡ self.old.counts.failed }
     {
-        self.made = self.made.saturating_add(1);
-        self.fail.contains(&self.made)
-    }
-
-    fn count_failure(&mut self)
-        ensures list { self.new.fail ≡ self.old.fail }
-        ensures made { self.new.made ≡ self.old.made }
-        ensures failed { self.new.failed ≡ raised self.old.failed }
-    {
-        self.failed = self.failed.saturating_add(1);
+        let call = self.counts.begin();
+        self.fail.contains(&call)
     }
 }
 

@@ -1,0 +1,9 @@
+pub mod Gated
+pub mod HalfDone
+pub mod Histories
+pub mod Images
+pub mod Logs
+pub mod Outside
+pub mod Overwritten
+pub mod Sound
+pub mod Torn

@@ -1,0 +1,106 @@
+//! Two files in memory, and all that was done to them.
+ghost use Rattle.std.specs.Prelude.{◌≡◌, ◌^◌, ◌<◌, ◌≤◌, length, IfOk, OnOk, OnErr};
+ghost use Rattle.sq_outside.specs.Disk.{AreSound, fresh, nth};
+ghost use Rattle.sq_outside.specs.File.{IsImage};
+ghost use Rattle.sq_outside.specs.MemoryFile.{Fits, after};
+ghost use Rattle.sq_outside.specs.MemoryDisk.{with_nth, went_on};
+
+use crate::NoMemory;
+use crate::change::{Change, Entry};
+use crate::memory_file::MemFile;
+use std::alloc::Global;
+use std::marker::Model;
+
+#[derive(Drop)]
+pub(crate) struct Store {
+    first: (Vec<u8>, Vec<u8>),
+    files: (MemFile, MemFile),
+    log: Vec<Entry>,
+}
+
+impl Model for Store {
+    ghost use Rattle.sq_outside.specs.Disk.{History};
+
+    ghost Value = { History };
+
+    ghost use Rattle.sq_outside.specs.StoreView.{history_of, IsStore};
+
+    ghost view = { history_of };
+
+    ghost invariant = { IsStore };
+}
+
+impl Store {
+    /// Files of these bytes, all of them synced.
+    pub(crate) fn new(alloc: Global, zeroth: Vec<u8>, first: Vec<u8>) -> Result<Self, NoMemory>
+        requires { (length zeroth.items < 2 ^ 63) × (length first.items < 2 ^ 63) }
+        ensures bytes { IfOk result (λ store. store ≡ fresh (zeroth.items, first.items)) }
+        ensures sound { IfOk result (λ store. AreSound store.now) }
+    {
+        let copies = (
+            Vec::from_slice(alloc, &zeroth)?,
+            Vec::from_slice(alloc, &first)?,
+        );
+        Ok(Store {
+            first: copies,
+            files: (MemFile::new(alloc, zeroth)?, MemFile::new(alloc, first)?),
+            log: Vec::new(alloc),
+        })
+    }
+
+    /// What a read of a file gives.
+    pub(crate) fn bytes(&self, file: u8) -> &[u8]
+        ensures { result.now ≡ (nth file self.now.now).reads }
+    {
+        if file == 0 {
+            self.files.0.bytes()
+        } else {
+            self.files.1.bytes()
+        }
+    }
+
+    /// Bytes that a crash may leave of a file.
+    pub(crate) fn image(
+        &self,
+        alloc: Global,
+        file: u8,
+        choice: u64,
+        seed: u64,
+    ) -> Result<Vec<u8>, NoMemory>
+        ensures { IfOk result (λ image. IsImage (nth file self.now.now).unsynced image.items) }
+    {
+        if file == 0 {
+            self.files.0.image(alloc, choice, seed)
+        } else {
+            self.files.1.image(alloc, choice, seed)
+        }
+    }
+
+    /// Makes a change, or none where there is no memory.
+    pub(crate) fn make(&mut self, file: u8, change: Change) -> Result<(), NoMemory>
+        requires { Fits change (nth file self.old.now) }
+        ensures made { OnOk result (self.new ≡ went_on (record { file = file; change = change }) self.old) }
+        ensures kept { OnErr result (self.new ≡ self.old) }
+        ensures sound { AreSound self.new.now }
+    {
+        self.log.reserve(1)?;
+        change_one(&mut self.files, file, &change)?;
+        if self.log.push(Entry { file, change }).is_err() {
+            unreachable!();
+        }
+        Ok(())
+    }
+}
+
+fn change_one(files: &mut (MemFile, MemFile), file: u8, change: &Change) -> Result<(), NoMemory>
+    requires { Fits change.now (nth file files.old) }
+    ensures made { OnOk result (files.new ≡ with_nth file (after change.now) files.old) }
+    ensures kept { OnErr result (files.new ≡ files.old) }
+    ensures sound { AreSound files.old → AreSound files.new }
+{
+    if file == 0 {
+        files.0.make(change)
+    } else {
+        files.1.make(change)
+    }
+}
