@@ -1,0 +1,7 @@
+pub mod Arguments
+pub mod Envelope
+pub mod Gives
+pub mod Kind
+pub mod Member
+pub mod Ranges
+pub mod Written

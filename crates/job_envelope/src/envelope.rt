@@ -1,0 +1,189 @@
+ghost use Rattle.std.specs.Prelude.{◌≤◌, length, IfOk, OnOk, IfSome, IsUtf8};
+ghost use Rattle.serde_json.specs.View.{view, items_view};
+ghost use Rattle.job_envelope.specs.Gives.{Gives, GivesAs};
+ghost use Rattle.job_envelope.specs.Envelope as spec;
+ghost use Rattle.job_envelope.specs.Ranges.{AreCounts, IsInRange};
+ghost use Rattle.job_envelope.specs.Written.{IsWritten, ReadsBack};
+
+use crate::arguments::first_args;
+use crate::counts::counts_in;
+use crate::float::{any_item, holds_float};
+use crate::kind::{
+    count_in, items_in, moment_in, name_from, name_in, needed, optional, optional_or_null,
+    priority_in,
+};
+use crate::written::envelope_value;
+use crate::{EnvelopeFault, Member};
+use job_states::{Bytes, Counted, LAST, List, Moment, Name, NewJob, NoMemory};
+use serde_json::Value;
+use std::alloc::Global;
+
+/// The JSON object of the bytes.
+fn object_of(alloc: Global, bytes: &[u8]) -> Result<Value, EnvelopeFault>
+    ensures exact { GivesAs view result (spec.object_of bytes.now) }
+    ensures utf8 { OnOk result (IsUtf8 bytes.now) }
+{
+    let value = match Value::from_slice(alloc, bytes) {
+        Ok(value) => value,
+        Err(e) if e.is_memory() => return Err(EnvelopeFault::NoMemory),
+        Err(_) => return Err(EnvelopeFault::NotJson),
+    };
+    if !value.is_object() {
+        return Err(EnvelopeFault::NotJson);
+    }
+    Ok(value)
+}
+
+#[tactic(auto, unfolding(crate::specs::Envelope::name_at))]
+fn name_at(alloc: Global, envelope: &Value, member: Member) -> Result<Name, EnvelopeFault>
+    ensures { Gives result (spec.name_at member (view envelope.now)) }
+{
+    name_in(alloc, member, needed(envelope, member)?)
+}
+
+#[tactic(auto, unfolding(crate::specs::Envelope::queue_at))]
+fn queue_at(alloc: Global, envelope: &Value) -> Result<Name, EnvelopeFault>
+    ensures { Gives result (spec.queue_at (view envelope.now)) }
+{
+    let member = Member::QueueName;
+    match optional_or_null(envelope, member) {
+        Some(value) => name_in(alloc, member, value),
+        None => name_from(alloc, member, "default"),
+    }
+}
+
+#[tactic(auto, unfolding(crate::specs::Envelope::priority_at))]
+fn priority_at(envelope: &Value) -> Result<i32, EnvelopeFault>
+    ensures { Gives result (spec.priority_at (view envelope.now)) }
+{
+    let member = Member::Priority;
+    match optional_or_null(envelope, member) {
+        Some(value) => priority_in(member, value),
+        None => Ok(0),
+    }
+}
+
+#[tactic(auto, unfolding(crate::specs::Envelope::arguments_at))]
+fn arguments_at<'v>(envelope: &'v Value) -> Result<&'v [Value], EnvelopeFault>
+    ensures { GivesAs (λ items. items_view items.now) result (spec.arguments_at (view envelope.now)) }
+{
+    let member = Member::Arguments;
+    match optional(envelope, member) {
+        Some(value) => items_in(member, value),
+        None => Ok(&[]),
+    }
+}
+
+#[tactic(auto, unfolding(crate::specs::Envelope::executions_at))]
+fn executions_at(envelope: &Value) -> Result<u32, EnvelopeFault>
+    ensures exact { Gives result (spec.executions_at (view envelope.now)) }
+    ensures most { IfOk result (λ n. n ≤ 65_535) }
+{
+    let member = Member::Executions;
+    match optional(envelope, member) {
+        Some(value) => count_in(member, value),
+        None => Ok(0),
+    }
+}
+
+#[tactic(auto, unfolding(crate::specs::Envelope::counts_at))]
+fn counts_at(alloc: Global, envelope: &Value) -> Result<List<Counted>, EnvelopeFault>
+    ensures exact { Gives result (spec.counts_at (view envelope.now)) }
+    ensures ranges { IfOk result AreCounts }
+{
+    let member = Member::ExceptionExecutions;
+    match optional(envelope, member) {
+        Some(value) => counts_in(alloc, member, value),
+        None => Ok(List::of(Vec::new(alloc))),
+    }
+}
+
+#[tactic(auto, unfolding(crate::specs::Envelope::moment_at))]
+fn moment_at(envelope: &Value) -> Result<Option<Moment>, EnvelopeFault>
+    ensures exact { Gives result (spec.moment_at (view envelope.now)) }
+    ensures last { IfOk result (λ at. IfSome at (λ moment. moment ≤ LAST)) }
+{
+    let member = Member::ScheduledAt;
+    match optional_or_null(envelope, member) {
+        Some(value) => Ok(Some(moment_in(member, value)?)),
+        None => Ok(None),
+    }
+}
+
+/// The job that an object asks for, with the bytes that came as its envelope.
+#[tactic(auto, unfolding(crate::specs::Envelope::job_of))]
+fn job_of(alloc: Global, bytes: &[u8], envelope: &Value) -> Result<NewJob, EnvelopeFault>
+    ensures exact { Gives result (spec.job_of bytes.now (view envelope.now)) }
+    ensures ranges { length bytes.now ≤ 8192 → IsUtf8 bytes.now → IfOk result IsInRange }
+{
+    let class = name_at(alloc, envelope, Member::JobClass)?;
+    let active_id = name_at(alloc, envelope, Member::JobId)?;
+    let queue = queue_at(alloc, envelope)?;
+    let priority = priority_at(envelope)?;
+    let arguments = arguments_at(envelope)?;
+    let executions = executions_at(envelope)?;
+    let counts = counts_at(alloc, envelope)?;
+    let at = moment_at(envelope)?;
+    if any_item(arguments) {
+        return Err(EnvelopeFault::FloatArgument);
+    }
+    Ok(NewJob {
+        class,
+        queue,
+        priority,
+        active_id,
+        envelope: Bytes::read(alloc, bytes)?,
+        executions,
+        counts,
+        at,
+        args: first_args(alloc, arguments)?,
+    })
+}
+
+/// Active Job's serialized jobs.
+#[derive(Clone, Copy, Debug)]
+pub struct Envelope;
+
+impl Envelope {
+    /// The greatest length in bytes.
+    pub const MAX_LEN: usize = 8192;
+
+    /// The job that the bytes ask for. They are its envelope as they came.
+    #[tactic(auto, unfolding(crate::specs::Envelope::envelope_of))]
+    pub fn read(alloc: Global, bytes: &[u8]) -> Result<NewJob, EnvelopeFault>
+        ensures exact { Gives result (spec.envelope_of bytes.now) }
+        ensures ranges { IfOk result IsInRange }
+    {
+        if bytes.len() > Envelope::MAX_LEN {
+            return Err(EnvelopeFault::TooLong { len: bytes.len() });
+        }
+        let envelope = object_of(alloc, bytes)?;
+        job_of(alloc, bytes, &envelope)
+    }
+
+    /// The job that a JSON value asks for. Its envelope is the value's compact text.
+    #[tactic(auto, unfolding(crate::specs::Envelope::value_envelope))]
+    pub fn read_value(alloc: Global, value: &Value) -> Result<NewJob, EnvelopeFault>
+        ensures exact { Gives result (spec.value_envelope (view value.now)) }
+        ensures ranges { IfOk result IsInRange }
+    {
+        if holds_float(value) {
+            return Err(EnvelopeFault::FloatArgument);
+        }
+        let text = value.to_vec(alloc)?;
+        Envelope::read(alloc, &text)
+    }
+
+    /// The envelope of a job with these arguments: compact JSON with the members that Active Job writes, in byte order of
+    /// their names. `enqueued_at`, `locale`, `provider_job_id` and `timezone` are null. A moment past [`LAST`] is written
+    /// as [`LAST`].
+    ///
+    /// [`LAST`]: job_states::LAST
+    pub fn write(alloc: Global, job: &NewJob, args: &Value) -> Result<Bytes, NoMemory>
+        ensures written { IfOk result (IsWritten job.now (view args.now)) }
+        ensures reads_back { IfOk result (ReadsBack job.now (view args.now)) }
+    {
+        let envelope = envelope_value(alloc, job, args)?;
+        Ok(Bytes::of(envelope.to_vec(alloc)?))
+    }
+}
