@@ -1,0 +1,6 @@
+pub mod DocumentLemmas
+pub mod ElementLemmas
+pub mod FaultLemmas
+pub mod KeyLemmas
+pub mod NameLemmas
+pub mod ViewLemmas

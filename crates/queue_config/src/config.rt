@@ -1,0 +1,123 @@
+use job_states::{List, Name, Text};
+
+/// The settings. Times are in seconds, unless a name ends in `_ms`.
+#[derive(Debug, PartialEq, Eq, Drop)]
+pub struct Config {
+    /// At most 1024, each with a name of its own.
+    pub classes: List<Class>,
+    pub dispatcher: DispatcherKeys,
+    /// At most 1024.
+    pub errors: List<ErrorKeys>,
+    pub jobs: JobsKeys,
+    pub processes: ProcessKeys,
+    /// At least one, and at most 32 threads in all.
+    pub workers: List<Worker>,
+}
+
+/// A class of jobs.
+#[derive(Debug, PartialEq, Eq, Drop)]
+pub struct Class {
+    pub name: Name,
+    pub limit: Option<Limit>,
+    /// At most 16. Of those that fit an error the last one counts.
+    pub rules: List<Rule>,
+}
+
+/// At most `to` jobs of one key of the group at a time.
+#[derive(Debug, PartialEq, Eq, Drop)]
+pub struct Limit {
+    pub group: Name,
+    pub key: KeyFrom,
+    /// 1 to 65535.
+    pub to: u32,
+    /// 1 to 31536000.
+    pub duration: u64,
+    /// Is a job discarded where the key is closed? Else it is blocked.
+    pub discard: bool,
+}
+
+/// Where a job's concurrency key comes from.
+#[derive(Debug, PartialEq, Eq, Drop)]
+pub enum KeyFrom {
+    /// A text of 1 to 128 bytes.
+    Fixed(Text),
+    /// The job's argument of this number, 0 to 15.
+    Argument(u32),
+}
+
+/// What becomes of a job that raised one of these errors.
+#[derive(Debug, PartialEq, Eq, Drop)]
+pub struct Rule {
+    /// 1 to 8 errors.
+    pub list: List<Name>,
+    pub act: RuleAct,
+}
+
+/// What a rule does.
+#[derive(Clone, Copy, Debug, PartialEq, Eq)]
+pub enum RuleAct {
+    Discard,
+    Retry {
+        /// 0 to 31536000; none is a wait that grows polynomially.
+        wait: Option<u64>,
+        /// 1 to 65535; none is without limit.
+        attempts: Option<u32>,
+    },
+}
+
+/// An error, and the error that it is a kind of.
+#[derive(Debug, PartialEq, Eq, Drop)]
+pub struct ErrorKeys {
+    pub name: Name,
+    pub parent: Name,
+}
+
+/// How scheduled jobs are dispatched.
+#[derive(Clone, Copy, Debug, PartialEq, Eq)]
+pub struct DispatcherKeys {
+    /// 1 to 500.
+    pub batch_size: u64,
+    /// 1 to 3600000.
+    pub polling_ms: u64,
+    /// 1 to 86400.
+    pub maintenance: u64,
+}
+
+/// How many jobs are kept, and for how long those that finished.
+#[derive(Clone, Copy, Debug, PartialEq, Eq)]
+pub struct JobsKeys {
+    /// 1 to 250000.
+    pub kept_max: u64,
+    /// 0 to 31536000.
+    pub clear_after: u64,
+}
+
+/// How often a process beats, and how long it counts as alive after a beat.
+#[derive(Clone, Copy, Debug, PartialEq, Eq)]
+pub struct ProcessKeys {
+    /// 1 to 86400.
+    pub heartbeat: u64,
+    /// 1 to 86400.
+    pub alive_threshold: u64,
+}
+
+/// An argument of a task's jobs.
+#[derive(Debug, PartialEq, Eq, Drop)]
+pub enum TaskArg {
+    Text(Text),
+    Whole(i64),
+    Truth(bool),
+}
+
+/// A worker.
+#[derive(Debug, PartialEq, Eq, Drop)]
+pub struct Worker {
+    /// A queue list: 1 to 64 items of 1 to 128 bytes.
+    pub queues: List<Text>,
+    /// 1 to 32.
+    pub threads: u32,
+    /// How many jobs it claims at once, 1 to 100.
+    pub claim: u32,
+    /// 1 to 3600000.
+    pub polling_ms: u64,
+}
