@@ -4,5 +4,6 @@ pub mod Fields
 pub mod Filled
 pub mod HeadLemmas
 pub mod Rest
+pub mod Taken
 pub mod Token
 pub mod Whole

@@ -1,5 +1,5 @@
 -- Which bytes are a request, and where a stream of them ends or is refused.
-use Rattle.std.specs.Prelude.{◌≡◌, ◌<◌, ◌≤◌, ◌⊎◌, ◌+◌, ℕ, Bool, ◌||◌, ◌==◌, List, [], ◌++◌, length, take, drop, IsTrue, Option, None, Some, IfSome, Ok, Err, IsOkAnd}
+use Rattle.std.specs.Prelude.{◌≡◌, ◌<◌, ◌≤◌, ◌⊎◌, ◌+◌, ℕ, Bool, ◌||◌, ◌==◌, List, [], ◌++◌, length, take, drop, IsTrue, Option, None, Some, IfSome, Result, Ok, Err, IsOkAnd}
 use Rattle.std.specs.List.{list_all}
 use Rattle.std.specs.Io.KnownBytes.{prepend_known}
 use Rattle.httparse.specs.Grammar.{RequestHead}
@@ -25,6 +25,23 @@ abbrev pub Known : {A : Type 0} → Option A → Option A → (A → A → Type 
 Known None new related = Unit {0}
 Known (Some x) None related = ⊥
 Known (Some x) (Some y) related = related x y
+
+-- how many bytes of the input were taken: those before the bytes ahead, and these
+abbrev pub taken_of : Ahead → ℕ
+taken_of ahead = ahead.at + length ahead.bytes
+
+-- at most as many bytes are taken as an input may have: `taken` before, and those that left the source
+abbrev pub IsWithinInput : ℕ → Option (List ℕ) → Option (List ℕ) → Type 0
+IsWithinInput taken left left' = Known left left' (λ bytes rest. taken + length bytes ≤ MAX_INPUT + length rest)
+
+-- one byte more than that is taken
+abbrev pub IsPastInput : ℕ → Option (List ℕ) → Option (List ℕ) → Type 0
+IsPastInput taken left left' = Known left left' (λ bytes rest. taken + length bytes ≡ MAX_INPUT + 1 + length rest)
+
+-- how much is taken by a call with this answer: a byte too many where it is that the input is too long, and else no more than an input may have
+abbrev pub HasTaken : {X : Type 0} → ℕ → Option (List ℕ) → Option (List ℕ) → Result X WireFault → Type 0
+HasTaken taken left left' (Err faults.InputTooLong) = IsPastInput taken left left'
+HasTaken taken left left' _ = IsWithinInput taken left left'
 
 -- bytes are this request, head and body, and then rest
 pub record IsRequest (bytes : List ℕ) (request : Request) (rest : List ℕ) : Type 0 where
@@ -114,7 +131,7 @@ HasReadAheadCause taken left before after _ = ⊥
 -- why no more is read ahead
 abbrev pub HasFillCause : Ahead → Option (List ℕ) → ℕ → ℕ → WireFault → Type 0
 HasFillCause ahead left before after faults.NoMemory = Unit {0}
-HasFillCause ahead left before after fault = HasReadCause (ahead.at + length ahead.bytes) left before after fault
+HasFillCause ahead left before after fault = HasReadCause (taken_of ahead) left before after fault
 
 -- the head that the stream goes on with
 abbrev pub HeadAhead : Ahead → Option (List ℕ) → Head → Ahead → Option (List ℕ) → Type 0

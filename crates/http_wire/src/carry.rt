@@ -1,10 +1,10 @@
 ghost use Rattle.std.specs.Prelude.{◌≡◌, ◌<◌, ◌≤◌, ◌+◌, ◌++◌, [], length, take, drop, vec_len, true, false, IfOk, IfErr, IfSome, IfNone, OnSome};
 ghost use Rattle.std.specs.Io.KnownBytes.{Consumes};
 ghost use Rattle.std.specs.List.{list_all};
-ghost use Rattle.http_wire.specs.Stream.{is_line_byte, IsEnd, Known, HasReadCause, HasReadAheadCause};
+ghost use Rattle.http_wire.specs.Stream.{is_line_byte, IsEnd, Known, HasTaken, HasReadCause, HasReadAheadCause};
 
 use crate::head::{Head, read_head_at};
-use crate::{MAX_HEAD, MAX_INPUT, Refusal, WireFault};
+use crate::{MAX_HEAD, MAX_INPUT, WireFault};
 use sq_outside::{Failed, Source};
 use std::alloc::Global;
 use std::marker::Model;
@@ -32,11 +32,11 @@ impl Model for Carry {
 }
 
 impl Carry {
-    ghost use Rattle.std.specs.Prelude.{◌≡◌, ◌≤◌, ◌<◌, ◌+◌, ◌++◌, [], ℕ, List, Option, length, drop, Bool, true, false, take, IfOk, IfErr, IfSome, IfNone, OnOk, ◌⊎◌};
+    ghost use Rattle.std.specs.Prelude.{◌≡◌, ◌≢◌, ◌≤◌, ◌<◌, ◌+◌, ◌++◌, [], ℕ, List, Option, length, drop, Bool, true, false, take, IfOk, IfErr, IfSome, IfNone, OnOk, ◌⊎◌};
     ghost use Rattle.std.specs.Bool.{MatchBool};
     ghost use Rattle.std.specs.Io.KnownBytes.{Keeps};
     ghost use Rattle.http_wire.specs.Front.{IsOpen, IsHeadOf, HasHeadCause};
-    ghost use Rattle.http_wire.specs.Stream.{rest_of, Known, IsEnd, GoesOn, HeadAhead, EndsIn, HasCause, HasBodyCause, HasFillCause};
+    ghost use Rattle.http_wire.specs.Stream.{rest_of, taken_of, Known, IsEnd, GoesOn, HeadAhead, EndsIn, HasTaken, HasCause, HasBodyCause, HasFillCause};
 
     /// At the front of a stream, with nothing read.
     pub fn new(alloc: Global) -> Self
@@ -56,6 +56,7 @@ impl Carry {
         ensures end { IfOk result (λ more. more ≡ false → Known (S.left source.old) (S.left source.new) (λ old new. (old ≡ []) × (new ≡ []))) }
         ensures fault { IfErr result (HasFillCause self.old (S.left source.old) (S.faults source.old) (S.faults source.new)) }
         ensures count { S.faults source.old ≤ S.faults source.new }
+        ensures taken { HasTaken (taken_of self.old) (S.left source.old) (S.left source.new) result }
     {
         let mut chunk = [0; CHUNK];
         if self.ahead.reserve(CHUNK).is_err() {
@@ -79,6 +80,7 @@ impl Carry {
         ensures end { IfOk result (λ answer. IfNone answer (EndsIn self.old (S.left source.old) (S.left source.new))) }
         ensures fault { IfErr result (HasCause self.old (S.left source.old) (S.faults source.old) (S.faults source.new)) }
         ensures count { S.faults source.old ≤ S.faults source.new }
+        ensures taken { HasTaken (taken_of self.old) (S.left source.old) (S.left source.new) result }
     {
         while self.ahead.len() < MAX_HEAD {
             if let Some(head) = self.head_ahead(alloc)? {
@@ -126,12 +128,10 @@ impl Carry {
         ensures end { OnOk result (EndsIn self.now (S.left source.old) (S.left source.new)) }
         ensures fault { IfErr result (HasCause self.now (S.left source.old) (S.faults source.old) (S.faults source.new)) }
         ensures count { S.faults source.old ≤ S.faults source.new }
+        ensures taken { HasTaken (taken_of self.now) (S.left source.old) (S.left source.new) result }
     {
         if !is_blank(self.front()) {
-            return Err(Refusal::TooLarge {
-                len: MAX_HEAD as u64,
-            }
-            .at(self.at));
+            return Err(long_head(self.at));
         }
         if self.rest_is_blank(source)? {
             return Ok(());
@@ -145,6 +145,7 @@ impl Carry {
         ensures more { IfOk result (λ end. end ≡ false → GoesOn self.now (S.left source.old)) }
         ensures fault { IfErr result (HasCause self.now (S.left source.old) (S.faults source.old) (S.faults source.new)) }
         ensures count { S.faults source.old ≤ S.faults source.new }
+        ensures taken { HasTaken (taken_of self.now) (S.left source.old) (S.left source.new) result }
     {
         if !is_blank(&self.ahead) {
             return Ok(false);
@@ -156,14 +157,12 @@ impl Carry {
     fn fault_of_line_ends(&self, alloc: Global) -> WireFault
         requires full { MAX_HEAD ≤ length self.now.bytes }
         requires blank { IsEnd (take MAX_HEAD self.now.bytes) }
-        ensures { (left : Option (List ℕ)) (before after : ℕ) → GoesOn self.now left → HasCause self.now left before after result }
+        ensures cause { (left : Option (List ℕ)) (before after : ℕ) → GoesOn self.now left → HasCause self.now left before after result }
+        ensures within { result ≢ WireFault.InputTooLong }
     {
         match read_head_at(alloc, self.at, self.front()) {
             Err(fault) => fault,
-            Ok(None) => Refusal::TooLarge {
-                len: MAX_HEAD as u64,
-            }
-            .at(self.at),
+            Ok(None) => long_head(self.at),
             Ok(Some(_)) => unreachable!(),
         }
     }
@@ -183,6 +182,7 @@ impl Carry {
         ensures rest { IfOk result (λ body. Known (rest_of self.old (S.left source.old)) (rest_of self.new (S.left source.new)) (λ bytes rest. drop len bytes ≡ body.items ++ rest)) }
         ensures fault { IfErr result (HasBodyCause self.old (S.left source.old) (S.faults source.old) (S.faults source.new) len n) }
         ensures count { S.faults source.old ≤ S.faults source.new }
+        ensures taken { HasTaken (taken_of self.old) (S.left source.old) (S.left source.new) result }
     {
         let held = n.min(self.ahead.len() - len);
         let ahead = &self.ahead[len..len + held];
@@ -196,7 +196,7 @@ impl Carry {
 
     // How many bytes were taken from the input.
     fn taken(&self) -> u64
-        ensures sum { result ≡ self.now.at + length self.now.bytes }
+        ensures sum { result ≡ taken_of self.now }
         ensures within { result ≤ MAX_INPUT }
     {
         self.at + self.ahead.len() as u64
@@ -217,6 +217,7 @@ pub(crate) fn read_some<S: Source>(
     ensures end { IfOk result (λ n. n ≡ 0 → IfSome (S.left source.old) (λ bytes. bytes ≡ [])) }
     ensures fault { IfErr result (HasReadCause taken (S.left source.old) (S.faults source.old) (S.faults source.new)) }
     ensures count { S.faults source.old ≤ S.faults source.new }
+    ensures taken { HasTaken taken (S.left source.old) (S.left source.new) result }
 {
     let left = (MAX_INPUT - taken) as usize;
     let room = buf.len().min(left.max(1));
@@ -224,6 +225,16 @@ pub(crate) fn read_some<S: Source>(
         Ok(n) if n > left => Err(WireFault::InputTooLong),
         Ok(n) => Ok(n),
         Err(Failed) => Err(WireFault::ReadFault),
+    }
+}
+
+// What a head with no end within the longest one's length is refused as.
+fn long_head(at: u64) -> WireFault
+    ensures { result ≡ WireFault.TooLarge at MAX_HEAD }
+{
+    WireFault::TooLarge {
+        at,
+        len: MAX_HEAD as u64,
     }
 }
 
@@ -251,6 +262,7 @@ fn read_behind<S: Source>(
     ensures short { IfOk result (λ whole. IfNone whole (IfSome (S.left source.old) (λ bytes. length ahead.now + length bytes < n))) }
     ensures fault { IfErr result (HasReadAheadCause taken (S.left source.old) (S.faults source.old) (S.faults source.new)) }
     ensures count { S.faults source.old ≤ S.faults source.new }
+    ensures taken { HasTaken taken (S.left source.old) (S.left source.new) result }
 {
     let Ok(mut body) = vec![in alloc; 0; n] else {
         return Err(WireFault::NoMemory);
@@ -276,6 +288,7 @@ fn fill_behind<S: Source>(
     ensures short { IfOk result (λ whole. whole ≡ false → IfSome (S.left source.old) (λ bytes. length ahead.now + length bytes < length buf.old)) }
     ensures fault { IfErr result (HasReadAheadCause taken (S.left source.old) (S.faults source.old) (S.faults source.new)) }
     ensures count { S.faults source.old ≤ S.faults source.new }
+    ensures taken { HasTaken taken (S.left source.old) (S.left source.new) result }
 {
     let (front, rest) = buf.split_at_mut(ahead.len());
     front.copy_from_slice(ahead);
@@ -290,6 +303,7 @@ fn fill_whole<S: Source>(source: &mut S, taken: u64, buf: &mut [u8]) -> Result<b
     ensures short { IfOk result (λ whole. whole ≡ false → IfSome (S.left source.old) (λ bytes. length bytes < length buf.old)) }
     ensures fault { IfErr result (HasReadAheadCause taken (S.left source.old) (S.faults source.old) (S.faults source.new)) }
     ensures count { S.faults source.old ≤ S.faults source.new }
+    ensures taken { HasTaken taken (S.left source.old) (S.left source.new) result }
 {
     let mut done = 0;
     while done < buf.len() {
@@ -309,6 +323,7 @@ fn skip_blank<S: Source>(source: &mut S, mut taken: u64) -> Result<bool, WireFau
     ensures more { IfOk result (λ end. end ≡ false → IfSome (S.left source.old) (λ bytes. IsEnd bytes → ⊥)) }
     ensures fault { IfErr result (HasReadAheadCause taken (S.left source.old) (S.faults source.old) (S.faults source.new)) }
     ensures count { S.faults source.old ≤ S.faults source.new }
+    ensures taken { HasTaken taken (S.left source.old) (S.left source.new) result }
 {
     let mut chunk = [0; CHUNK];
     'line_ends: loop {

@@ -1,5 +1,5 @@
 ghost use Rattle.std.specs.Prelude.{◌≡◌, ◌<◌, ◌≤◌, ℕ, List, IfOk, IfErr, IfSome, OnSome};
-ghost use Rattle.http_wire.specs.Stream.{IsRequest, IsEnd, IsRefused, Takes, EndsIn, HasCause};
+ghost use Rattle.http_wire.specs.Stream.{taken_of, IsRequest, IsEnd, IsRefused, Takes, EndsIn, HasTaken, HasCause};
 
 use crate::{Carry, Refusal};
 use http::Method;
@@ -63,6 +63,7 @@ pub fn read_request<S: Source>(
     ensures end { IfOk result (λ answer. answer ≡ None → EndsIn carry.old (S.left source.old) (S.left source.new)) }
     ensures fault { IfErr result (HasCause carry.old (S.left source.old) (S.faults source.old) (S.faults source.new)) }
     ensures count { S.faults source.old ≤ S.faults source.new }
+    ensures taken { HasTaken (taken_of carry.old) (S.left source.old) (S.left source.new) result }
 {
     let Some(head) = carry.next_head(alloc, source)? else {
         return Ok(None);

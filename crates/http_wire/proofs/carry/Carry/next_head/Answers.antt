@@ -1,9 +1,10 @@
-use Rattle.std.proofs.Common.{◌≡◌, true, false, ◌<◌, length, inl, inr, subst, sym, ap, ◌∙◌, List, ℕ, take, arith}
+use Rattle.std.proofs.Common.{◌≡◌, true, false, ◌<◌, ◌≤◌, length, inl, inr, subst, sym, ap, ◌∙◌, List, ℕ, take, arith}
 use Rattle.std.proofs.lemmas.Result.{err_from_is_err_and}
 use Rattle.std.specs.List.{list_all}
 use Rattle.http_wire.specs.Front.{IsOpen}
-use Rattle.http_wire.specs.Stream.{IsEnd, is_line_byte}
+use Rattle.http_wire.specs.Stream.{IsEnd, is_line_byte, taken_of}
 use Rattle.http_wire.proofs.Rest.{kept_fault, kept_head, kept_end, kept_fill, here_head, here_end, here_cut, ahead_fault, no_more, goes_on_here}
+use Rattle.http_wire.proofs.Taken.{none_taken, head_taken, kept_within, kept_taken}
 use Rattle.std.proofs.lemmas.List.{take_all}
 use Rattle.http_wire.specs.declared.request.WireFault.TheVariants as faults
 use Rattle.http_wire.proofs.carry.Carry.next_head.Goals as goal
@@ -76,3 +77,51 @@ pub returns-clause-end : goal.returns-clause-end
 returns-clause-end g c =
     kept_end c.args.self.now c.loop-self.self (g.S.Source.left c.args.source.now) (g.S.Source.left c.loop-self.source) (g.S.Source.left c.no_head_ahead.new.source)
     c.loop-self.invariant.rest c.in_ok-no_head_ahead.ensures.end
+
+pub returns-in_err-head-clause-taken : goal.returns-in_err-head-clause-taken
+returns-in_err-head-clause-taken g c =
+    let within : taken_of c.loop-self.self ≤ 1073741824 = omega (arith, ap taken_of c.self.view_is) in
+    let p = err_from_is_err_and c.from_residual.result c.from_residual.ensures.1 in
+    rw (p.1, p.2) (kept_taken c.args.self.now c.loop-self.self (g.S.Source.left c.args.source.now) (g.S.Source.left c.loop-self.source) (g.S.Source.left c.loop-self.source) _ c.loop-self.invariant.rest c.loop-self.invariant.place
+    (head_taken c.loop-self.self (g.S.Source.left c.loop-self.source) _ _ _ c.in_err-head.ensures.fault.0 within))
+
+pub returns-in-Some-clause-taken : goal.returns-in-Some-clause-taken
+returns-in-Some-clause-taken g c =
+    let within : taken_of c.loop-self.self ≤ 1073741824 = omega (arith, ap taken_of c.self.view_is) in
+    kept_within c.args.self.now c.loop-self.self (g.S.Source.left c.args.source.now) (g.S.Source.left c.loop-self.source) (g.S.Source.left c.loop-self.source) c.loop-self.invariant.rest c.loop-self.invariant.place
+    (none_taken c.loop-self.self (g.S.Source.left c.loop-self.source) within)
+
+pub returns-in_err-fill-clause-taken : goal.returns-in_err-fill-clause-taken
+returns-in_err-fill-clause-taken g c =
+    let p = err_from_is_err_and c.from_residual-in_err-fill.result c.from_residual-in_err-fill.ensures.1 in
+    rw (p.1, p.2) (kept_taken c.args.self.now c.loop-self.self (g.S.Source.left c.args.source.now) (g.S.Source.left c.loop-self.source) (g.S.Source.left c.fill.new.source) _ c.loop-self.invariant.rest c.loop-self.invariant.place c.in_err-fill.ensures.taken)
+
+pub returns-then-is_blank-clause-taken : goal.returns-then-is_blank-clause-taken
+returns-then-is_blank-clause-taken g c =
+    kept_within c.args.self.now c.loop-self.self (g.S.Source.left c.args.source.now) (g.S.Source.left c.loop-self.source) (g.S.Source.left c.fill.new.source) c.loop-self.invariant.rest c.loop-self.invariant.place c.in_ok-fill.ensures.taken
+
+pub returns-then-not-branch-clause-taken : goal.returns-then-not-branch-clause-taken
+returns-then-not-branch-clause-taken g c =
+    kept_within c.args.self.now c.loop-self.self (g.S.Source.left c.args.source.now) (g.S.Source.left c.loop-self.source) (g.S.Source.left c.fill.new.source) c.loop-self.invariant.rest c.loop-self.invariant.place c.in_ok-fill.ensures.taken
+
+pub returns-in_err-head-2-clause-taken : goal.returns-in_err-head-2-clause-taken
+returns-in_err-head-2-clause-taken g c =
+    let within : taken_of c.loop-self.self ≤ 1073741824 = omega (arith, ap taken_of c.self.view_is) in
+    let p = err_from_is_err_and c.from_residual-in_err-head-2.result c.from_residual-in_err-head-2.ensures.1 in
+    rw (p.1, p.2) (kept_taken c.args.self.now c.loop-self.self (g.S.Source.left c.args.source.now) (g.S.Source.left c.loop-self.source) (g.S.Source.left c.loop-self.source) _ c.loop-self.invariant.rest c.loop-self.invariant.place
+    (head_taken c.loop-self.self (g.S.Source.left c.loop-self.source) _ _ _ c.in_err-head-2.ensures.fault.0 within))
+
+pub returns-in-Some-2-clause-taken : goal.returns-in-Some-2-clause-taken
+returns-in-Some-2-clause-taken g c =
+    let within : taken_of c.loop-self.self ≤ 1073741824 = omega (arith, ap taken_of c.self.view_is) in
+    kept_within c.args.self.now c.loop-self.self (g.S.Source.left c.args.source.now) (g.S.Source.left c.loop-self.source) (g.S.Source.left c.loop-self.source) c.loop-self.invariant.rest c.loop-self.invariant.place
+    (none_taken c.loop-self.self (g.S.Source.left c.loop-self.source) within)
+
+pub returns-in_err-no_head_ahead-clause-taken : goal.returns-in_err-no_head_ahead-clause-taken
+returns-in_err-no_head_ahead-clause-taken g c =
+    let p = err_from_is_err_and c.from_residual-in_err-no_head_ahead.result c.from_residual-in_err-no_head_ahead.ensures.1 in
+    rw (p.1, p.2) (kept_taken c.args.self.now c.loop-self.self (g.S.Source.left c.args.source.now) (g.S.Source.left c.loop-self.source) (g.S.Source.left c.no_head_ahead.new.source) _ c.loop-self.invariant.rest c.loop-self.invariant.place c.in_err-no_head_ahead.ensures.taken)
+
+pub returns-clause-taken : goal.returns-clause-taken
+returns-clause-taken g c =
+    kept_within c.args.self.now c.loop-self.self (g.S.Source.left c.args.source.now) (g.S.Source.left c.loop-self.source) (g.S.Source.left c.no_head_ahead.new.source) c.loop-self.invariant.rest c.loop-self.invariant.place c.in_ok-no_head_ahead.ensures.taken
