@@ -1,6 +1,7 @@
 -- What holds of each accepted value.
-use Rattle.std.specs.Prelude.{◌≢◌, ◌≤◌, ℕ, List, length, sum_by, All, AllPairs}
+use Rattle.std.specs.Prelude.{◌≡◌, ◌≢◌, ◌≤◌, ℕ, List, length, map, sum_by, Ok, All, AllPairs}
 use Rattle.std.specs.Option.{ForSome}
+use Rattle.cron_lines.specs.Text.{schedule_of}
 use Rattle.job_states.specs.Length.{IsName}
 use Rattle.queue_config.specs.declared.config.Class.{Class}
 use Rattle.queue_config.specs.declared.config.Config.{Config}
@@ -14,6 +15,7 @@ use Rattle.queue_config.specs.declared.config.ProcessKeys.{ProcessKeys}
 use Rattle.queue_config.specs.declared.config.Rule.{Rule}
 use Rattle.queue_config.specs.declared.config.RuleAct.{RuleAct}
 use Rattle.queue_config.specs.declared.config.RuleAct.TheVariants.{Discard, Retry}
+use Rattle.queue_config.specs.declared.config.Task.{Task}
 use Rattle.queue_config.specs.declared.config.Worker.{Worker}
 use Rattle.queue_config.specs.Settings.{names_of}
 
@@ -63,6 +65,13 @@ pub record IsProcesses (keys : ProcessKeys) : Type 0 where
   pub heartbeat : Between 1 86_400 keys.heartbeat
   pub alive_threshold : Between 1 86_400 keys.alive_threshold
 
+-- its schedule is the one that its text spells
+pub record IsTask (task : Task) : Type 0 where
+  pub key : IsName task.key
+  pub class : IsName task.class
+  pub schedule : schedule_of task.schedule_text ≡ Ok task.schedule
+  pub queue : IsName task.queue
+
 pub record IsWorker (worker : Worker) : Type 0 where
   pub queue_count : Between 1 64 (length worker.queues)
   pub queues : All IsName worker.queues
@@ -82,6 +91,12 @@ pub record AreErrors (errors : List ErrorKeys) : Type 0 where
   pub count : length errors ≤ 1024
   pub each : All IsErrorKeys errors
 
+-- no two tasks have one key
+pub record AreTasks (tasks : List Task) : Type 0 where
+  pub count : length tasks ≤ 1024
+  pub each : All IsTask tasks
+  pub keys : AllPairs (λ a b. a ≢ b) (map (λ task. task.key) tasks)
+
 pub record AreWorkers (workers : List Worker) : Type 0 where
   pub count : 1 ≤ length workers
   pub each : All IsWorker workers
@@ -94,4 +109,5 @@ pub record IsConfig (config : Config) : Type 0 where
   pub errors : AreErrors config.errors
   pub jobs : IsJobs config.jobs
   pub processes : IsProcesses config.processes
+  pub tasks : AreTasks config.tasks
   pub workers : AreWorkers config.workers

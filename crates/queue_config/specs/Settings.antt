@@ -92,7 +92,7 @@ settings_of document = do
   jobs ← table_of jobs_of (codes "jobs") top
   processes ← table_of processes_of (codes "processes") top
   named ← distinct (codes "classes") classes
-  Ok (record { classes = named; dispatcher = dispatcher; errors = []; jobs = jobs; processes = processes; workers = default_workers })
+  Ok (record { classes = named; dispatcher = dispatcher; errors = []; jobs = jobs; processes = processes; tasks = []; workers = default_workers })
 
 abbrev pub document_from : Option Members → Judged Members
 document_from None = no_document (codes "document")

@@ -1,3 +1,4 @@
+use cron_lines::Schedule;
 use job_states::{List, Name, Text};
 
 /// The settings. Times are in seconds, unless a name ends in `_ms`.
@@ -10,6 +11,8 @@ pub struct Config {
     pub errors: List<ErrorKeys>,
     pub jobs: JobsKeys,
     pub processes: ProcessKeys,
+    /// At most 1024, each with a key of its own.
+    pub tasks: List<Task>,
     /// At least one, and at most 32 threads in all.
     pub workers: List<Worker>,
 }
@@ -99,6 +102,21 @@ pub struct ProcessKeys {
     pub heartbeat: u64,
     /// 1 to 86400.
     pub alive_threshold: u64,
+}
+
+/// A task that comes round by its schedule.
+#[derive(Debug, PartialEq, Eq, Drop)]
+pub struct Task {
+    pub key: Name,
+    /// The class of its jobs.
+    pub class: Name,
+    /// As its text spells it.
+    pub schedule: Schedule,
+    pub schedule_text: Text,
+    /// The queue of its jobs.
+    pub queue: Name,
+    pub priority: i32,
+    pub args: List<TaskArg>,
 }
 
 /// An argument of a task's jobs.

@@ -14,6 +14,6 @@ mod whole;
 
 pub use config::{
     Class, Config, DispatcherKeys, ErrorKeys, JobsKeys, KeyFrom, Limit, ProcessKeys, Rule, RuleAct,
-    TaskArg, Worker,
+    Task, TaskArg, Worker,
 };
 pub use fault::SettingsFault;

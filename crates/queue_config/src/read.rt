@@ -98,6 +98,7 @@ fn settings_of(alloc: Global, top: &Table) -> Result<Config, SettingsFault>
         errors: List::of(Vec::new(alloc)),
         jobs,
         processes,
+        tasks: List::of(Vec::new(alloc)),
         workers: default_workers(alloc)?,
     })
 }

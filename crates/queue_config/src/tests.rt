@@ -46,6 +46,7 @@ classes = [{ name = "B" }, { name = "A" }] => 500 1000 600 250000 86400 60 300 B
 colour = 1;[[classes]];colour = 1 => 2 colour
 errors = 1 => 2 errors
 zones = 1;tasks = 1;workers = 1 => 2 tasks
+[[tasks]];key = "T";class = "A";schedule = "every minute" => 2 tasks
 classes = 1;bolours = 1;colours = 1 => 2 bolours
 [jobs];zeal = 1;ardour = 1;kept_max = 0 => 2 jobs.ardour
 [processes];colour = 1;[jobs];colour = 1 => 2 jobs.colour
@@ -53,6 +54,8 @@ classes = 1;bolours = 1;colours = 1 => 2 bolours
 [[classes]];name = "A";limit = { key = "k" } => 2 classes[0].limit
 [[classes]];name = "A";rules = [] => 2 classes[0].rules
 [[classes]] => 3 classes[0].name
+[[classes]];colour = 1 => 2 classes[0].colour
+[[classes]];[[classes]];colour = 1 => 3 classes[0].name
 [[classes]];name = "A";[[classes]] => 3 classes[1].name
 [[classes]];name = 1 => 4 classes[0].name
 [[classes]];name = ["A"] => 4 classes[0].name
@@ -127,7 +130,7 @@ fn lengths_end_where_they_should(rt: HostRuntime) -> Result<(), Fail> {
         blank.as_bytes(),
         "500 1000 600 250000 86400 60 300",
     )?;
-    let longer = "\n".repeat(alloc, Config::MAX_LEN + 1)?;
+    let longer = "=".repeat(alloc, Config::MAX_LEN + 1)?;
     expect(&rt, alloc, longer.as_bytes(), "10 length")?;
     expect(&rt, alloc, b"\xff", "1 document")?;
     for (len, expected) in [(128, "4 jobs"), (129, "5 classes[0].name")] {
