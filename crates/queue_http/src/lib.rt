@@ -8,7 +8,6 @@ mod service;
 #[cfg(test)]
 mod tests;
 
-pub use asked::MAX_ENVELOPE;
 pub use job_list::JobList;
 pub use replies::fault_reply;
 pub use service::answer;

@@ -1,27 +1,32 @@
 ghost use Rattle.std.specs.Prelude.{◌≡◌, IsTrue, IfOk, OnErr};
 ghost use Rattle.http_wire.specs.Reply.{is_reply_status};
-ghost use Rattle.queue_http.specs.Answers.{Answers, Does, Enqueues, Stays, row_of as new_row};
-ghost use Rattle.queue_http.specs.Asked as spec;
+ghost use Rattle.queue_http.specs.Answers as spec;
+ghost use Rattle.queue_http.specs.Answers.{Answers, ComesTo, Does, MayTick};
+ghost use Rattle.queue_http.specs.Asked as asked;
 
 use crate::JobList;
-use crate::asked::asked_by;
-use crate::replies::{created, no_memory, not_built};
+use crate::asked::{Ask, asked_by};
+use crate::replies::{created, no_memory, unknown_class};
 use http_wire::{Reply, Request};
-use job_states::{JobId, JobRow, NewJob, NoMemory, State};
+use job_states::{JobId, JobRow, Moment, NewJob, NoMemory, Outcome, State};
+use queue_config::Config;
 use sq_outside::Clock;
 use std::alloc::Global;
 
-/// Answers one request: a job that it asks for becomes ready with the next number. For want of memory nothing is done.
+/// Answers one request. A job that it asks for takes one moment of the clock. Where the settings have its class it gets the
+/// next number, and is scheduled where its own moment is above that one, else ready. For want of memory no job is added.
 pub fn answer<C: Clock>(
     alloc: Global,
+    config: &Config,
     jobs: &mut JobList,
     clock: &mut C,
     request: &Request,
 ) -> Reply
-    ensures answers { Answers request.now jobs.old jobs.new (C.moments clock.old) (C.moments clock.new) result }
+    ensures answers { Answers config.now request.now jobs.old jobs.new
+        (C.moments clock.old) (C.moments clock.new) result }
     ensures status { IsTrue (is_reply_status result.status) }
 {
-    match try_answer(alloc, jobs, clock, request) {
+    match try_answer(alloc, config, jobs, clock, request) {
         Ok(reply) => reply,
         Err(NoMemory) => no_memory(),
     }
@@ -29,42 +34,58 @@ pub fn answer<C: Clock>(
 
 fn try_answer<C: Clock>(
     alloc: Global,
+    config: &Config,
     jobs: &mut JobList,
     clock: &mut C,
     request: &Request,
 ) -> Result<Reply, NoMemory>
-    ensures does { IfOk result
-        (Does (spec.asked_by request.now) jobs.old jobs.new (C.moments clock.old) (C.moments clock.new)) }
-    ensures stays { OnErr result (Stays jobs.old jobs.new (C.moments clock.old) (C.moments clock.new)) }
+    ensures does { IfOk result (Does config.now (asked.asked_by request.now) jobs.old jobs.new
+        (C.moments clock.old) (C.moments clock.new)) }
+    ensures status { IfOk result (λ reply. IsTrue (is_reply_status reply.status)) }
+    ensures stays { OnErr result (jobs.new ≡ jobs.old) }
+    ensures may_tick { OnErr result (MayTick (asked.asked_by request.now)
+        (C.moments clock.old) (C.moments clock.new)) }
 {
     match asked_by(alloc, request)? {
-        Some(job) => enqueue(alloc, jobs, clock, job),
-        None => not_built(alloc),
+        Ask::Reply(reply) => Ok(reply),
+        Ask::Enqueue(job) => enqueue(alloc, config, jobs, clock.now(), job),
     }
 }
 
-// What can fail comes first, so that an `Err` leaves the jobs and the clock as they were.
-fn enqueue<C: Clock>(
+fn enqueue(
     alloc: Global,
+    config: &Config,
     jobs: &mut JobList,
-    clock: &mut C,
+    now: Moment,
     job: NewJob,
 ) -> Result<Reply, NoMemory>
-    ensures does { IfOk result (Enqueues job jobs.old jobs.new (C.moments clock.old) (C.moments clock.new)) }
-    ensures stays { OnErr result (Stays jobs.old jobs.new (C.moments clock.old) (C.moments clock.new)) }
+    ensures comes_to { IfOk result (ComesTo (spec.enqueued config.now job jobs.old now) jobs.new) }
+    ensures status { IfOk result (λ reply. IsTrue (is_reply_status reply.status)) }
+    ensures stays { OnErr result (jobs.new ≡ jobs.old) }
+{
+    match config.class(&job.class) {
+        None => unknown_class(alloc, &job.class),
+        Some(_) => append(alloc, jobs, now, job),
+    }
+}
+
+// What can fail comes first, so that an `Err` leaves the jobs as they were.
+fn append(alloc: Global, jobs: &mut JobList, now: Moment, job: NewJob) -> Result<Reply, NoMemory>
+    ensures comes_to { IfOk result (ComesTo (spec.appended job jobs.old now) jobs.new) }
+    ensures stays { OnErr result (jobs.new ≡ jobs.old) }
 {
     let id = jobs.jobs.len() as JobId + 1;
-    let reply = created(alloc, id)?;
+    let reply = created(alloc, id, outcome_at(job.at, now))?;
     jobs.jobs.reserve(1)?;
-    clock.now();
-    match jobs.jobs.push((row_of(id, job), State::Ready(None))) {
+    let state = state_at(job.at, now);
+    match jobs.jobs.push((row_of(id, job), state)) {
         Ok(()) => Ok(reply),
         Err(_) => unreachable!(),
     }
 }
 
 fn row_of(id: JobId, job: NewJob) -> JobRow
-    ensures { result ≡ new_row id job }
+    ensures { result ≡ spec.row_of id job }
 {
     JobRow {
         id,
@@ -76,5 +97,23 @@ fn row_of(id: JobId, job: NewJob) -> JobRow
         executions: job.executions,
         counts: job.counts,
         limited: None,
+    }
+}
+
+fn state_at(at: Option<Moment>, now: Moment) -> State
+    ensures { result ≡ spec.state_at at now }
+{
+    match at {
+        Some(at) if now < at => State::Scheduled(at),
+        _ => State::Ready(None),
+    }
+}
+
+fn outcome_at(at: Option<Moment>, now: Moment) -> Outcome
+    ensures { result ≡ spec.outcome_at at now }
+{
+    match at {
+        Some(at) if now < at => Outcome::Scheduled,
+        _ => Outcome::Ready,
     }
 }

@@ -1,12 +1,22 @@
-use crate::{JobList, MAX_ENVELOPE, answer, fault_reply};
+use crate::{JobList, answer, fault_reply};
 use http::Method;
 use http_wire::{Reply, Request, WireFault};
 use job_states::{Bytes, State, Text};
+use queue_config::Config;
 use sq_outside::{Clock, MemClock};
 use std::alloc::Global;
+use std::process::Abort;
 use std::test::Fail;
 
 const FIRST: &[u8] = br#"{"job_class":"A","job_id":"j1"}"#;
+
+/// The moment 2026-03-06T00:00:00Z.
+const MIDNIGHT: u64 = 1_772_755_200_000_000;
+
+/// Settings with the class `A`.
+fn settings(alloc: Global) -> Result<Config, Fail> {
+    Ok(Config::read(alloc, b"[[classes]]\nname = \"A\"\n")?)
+}
 
 fn request(alloc: Global, method: &str, path: &str, body: &[u8]) -> Result<Request, Fail> {
     Ok(Request {
@@ -17,42 +27,49 @@ fn request(alloc: Global, method: &str, path: &str, body: &[u8]) -> Result<Reque
     })
 }
 
-fn is_created(reply: &Reply, text: &[u8]) -> bool {
-    reply.status == 201 && reply.body.as_slice() == text
+/// The reply to a `POST /jobs` with this body.
+fn post(
+    alloc: Global,
+    jobs: &mut JobList,
+    clock: &mut MemClock,
+    body: &[u8],
+) -> Result<Reply, Fail> {
+    let request = request(alloc, "POST", "/jobs", body)?;
+    Ok(answer(alloc, &settings(alloc)?, jobs, clock, &request))
 }
 
-fn is_not_built(reply: &Reply) -> bool {
-    reply.status == 501 && reply.body.as_slice() == br#"{"error":"not_built"}"#.as_slice()
+fn expect(rt: &impl Abort, reply: &Reply, status: u16, text: &str) {
+    assert_eq!(rt; reply.status, status, "{text}");
+    assert_eq!(rt; reply.body.as_slice(), text.as_bytes());
 }
 
-// These bytes, so many of one byte more that they are this long, and these bytes.
-fn padded(alloc: Global, front: &[u8], byte: u8, len: usize, back: &[u8]) -> Result<Vec<u8>, Fail> {
-    let mut body = Vec::from_slice(alloc, front)?;
-    body.resize(len, byte)?;
-    body.extend_from_slice(back)?;
+/// The first job with blanks behind it, so many that the envelope is this long.
+fn padded(alloc: Global, len: usize) -> Result<Vec<u8>, Fail> {
+    let mut body = Vec::from_slice(alloc, FIRST)?;
+    body.resize(len, b' ')?;
     Ok(body)
 }
 
 #[test]
 fn a_job_is_kept_as_it_was_asked_for(rt: HostRuntime) -> Result<(), Fail> {
+    const FULL: &[u8] =
+        br#"{"job_class":"A","job_id":"8bd5b1c0-3e6e-4e4a-9d8c-1d2f6a1f5a10","provider_job_id":null,"queue_name":"default","priority":null,"arguments":[{"_aj_globalid":"gid://app/User/1"}],"executions":0,"exception_executions":{},"locale":"en","timezone":"UTC","enqueued_at":"2026-03-06T00:00:00.000000000Z","scheduled_at":null}"#;
     let mut jobs = JobList::new(rt.alloc());
     let mut clock = MemClock::new(vec![in rt.alloc(); 1000, 2000]?);
-    let reply = answer(
-        rt.alloc(),
-        &mut jobs,
-        &mut clock,
-        &request(rt.alloc(), "POST", "/jobs", FIRST)?,
-    );
-    assert!(rt; is_created(&reply, br#"{"id":1,"state":"ready"}"#));
+    let reply = post(rt.alloc(), &mut jobs, &mut clock, FULL)?;
+    expect(&rt, &reply, 201, r#"{"id":1,"state":"ready"}"#);
     assert_eq!(rt; clock.now(), 2000);
     assert_eq!(rt; jobs.jobs().len(), 1);
     let (row, state) = &jobs.jobs()[0];
     assert_eq!(rt; *state, State::Ready(None));
     assert_eq!(rt; row.id, 1);
     assert_eq!(rt; row.class.as_str(), "A");
-    assert_eq!(rt; row.active_id.as_str(), "j1");
+    assert_eq!(rt;
+        row.active_id.as_str(),
+        "8bd5b1c0-3e6e-4e4a-9d8c-1d2f6a1f5a10"
+    );
     assert_eq!(rt; row.queue.as_str(), "default");
-    assert_eq!(rt; row.envelope.as_slice(), FIRST);
+    assert_eq!(rt; row.envelope.as_slice(), FULL);
     assert_eq!(rt;
         [
             row.priority == 0,
@@ -65,75 +82,103 @@ fn a_job_is_kept_as_it_was_asked_for(rt: HostRuntime) -> Result<(), Fail> {
 }
 
 #[test]
-fn bodies_are_accepted_or_not_built(rt: HostRuntime) -> Result<(), Fail> {
-    const NAMED: &[u8] = br#"{"job_class":"A","job_id":""#;
-    let long = padded(rt.alloc(), FIRST, b' ', MAX_ENVELOPE, b"")?;
-    let longer = padded(rt.alloc(), FIRST, b' ', MAX_ENVELOPE + 1, b"")?;
-    let name = padded(rt.alloc(), NAMED, b'x', NAMED.len() + 128, br#""}"#)?;
-    let longer_name = padded(rt.alloc(), NAMED, b'x', NAMED.len() + 129, br#""}"#)?;
-    let bodies: [(&[u8], bool); 16] = [
-        (FIRST, true),
-        (br#" { "job_id" : "j2" , "job_class" : "\u0041" } "#, true),
-        (br#"{"job_class":1,"job_class":"A","job_id":"j1"}"#, true),
-        (&long, true),
-        (&name, true),
-        (&longer, false),
-        (&longer_name, false),
-        (b"", false),
-        (b"{}", false),
-        (br#"{"job_class":"A"}"#, false),
-        (
-            br#"{"job_class":"A","job_id":"j1","queue_name":"default"}"#,
-            false,
-        ),
-        (br#"{"job_class":"A","job":"j1"}"#, false),
-        (br#"{"job_class":"A","job_id":7}"#, false),
-        (br#"{"job_class":"","job_id":"j1"}"#, false),
-        (br#"["job_class","job_id"]"#, false),
-        (b"{\"job_class\":\"A\",\"job_id\":\"\xff\"}", false),
-    ];
+fn a_job_above_the_clocks_moment_is_scheduled(rt: HostRuntime) -> Result<(), Fail> {
+    const AT: &[u8] = br#"{"job_class":"A","job_id":"1","scheduled_at":"2026-03-06T00:00:00Z"}"#;
+    const ABOVE: &[u8] =
+        br#"{"job_class":"A","job_id":"1","scheduled_at":"2026-03-06T00:00:00.000001Z"}"#;
     let mut jobs = JobList::new(rt.alloc());
-    let mut clock = MemClock::new(Vec::new(rt.alloc()));
-    for (body, accepted) in bodies {
-        let before = jobs.jobs().len();
-        let reply = answer(
-            rt.alloc(),
-            &mut jobs,
-            &mut clock,
-            &request(rt.alloc(), "POST", "/jobs", body)?,
-        );
-        assert_eq!(rt;
-            (reply.status == 201, is_not_built(&reply)),
-            (accepted, !accepted),
-            "{body:?}"
-        );
-        assert_eq!(rt; jobs.jobs().len() > before, accepted, "{body:?}");
+    let mut clock = MemClock::new(vec![in rt.alloc(); MIDNIGHT]?);
+    let ready = post(rt.alloc(), &mut jobs, &mut clock, AT)?;
+    expect(&rt, &ready, 201, r#"{"id":1,"state":"ready"}"#);
+    let scheduled = post(rt.alloc(), &mut jobs, &mut clock, ABOVE)?;
+    expect(&rt, &scheduled, 201, r#"{"id":2,"state":"scheduled"}"#);
+    assert_eq!(rt; jobs.jobs().len(), 2);
+    assert_eq!(rt; jobs.jobs()[0].1, State::Ready(None));
+    assert_eq!(rt; jobs.jobs()[1].1, State::Scheduled(MIDNIGHT + 1));
+    Ok(())
+}
+
+#[test]
+fn a_class_that_the_settings_lack_is_refused(rt: HostRuntime) -> Result<(), Fail> {
+    const OTHER: &[u8] = br#"{"job_class":"Z","job_id":"j1"}"#;
+    let mut jobs = JobList::new(rt.alloc());
+    let mut clock = MemClock::new(vec![in rt.alloc(); 1, 2, 3]?);
+    let refused = post(rt.alloc(), &mut jobs, &mut clock, OTHER)?;
+    expect(
+        &rt,
+        &refused,
+        422,
+        r#"{"class":"Z","error":"unknown_class","index":0}"#,
+    );
+    assert_eq!(rt; jobs.jobs().len(), 0);
+    let accepted = post(rt.alloc(), &mut jobs, &mut clock, FIRST)?;
+    expect(&rt, &accepted, 201, r#"{"id":1,"state":"ready"}"#);
+    assert_eq!(rt; clock.now(), 3);
+    Ok(())
+}
+
+#[test]
+fn faults_of_an_envelope_are_told_and_change_nothing(rt: HostRuntime) -> Result<(), Fail> {
+    let longest = padded(rt.alloc(), 8192)?;
+    let longer = padded(rt.alloc(), 8193)?;
+    let mut jobs = JobList::new(rt.alloc());
+    let mut clock = MemClock::new(vec![in rt.alloc(); 1, 2, 3]?);
+    let reply = post(rt.alloc(), &mut jobs, &mut clock, &longest)?;
+    expect(&rt, &reply, 201, r#"{"id":1,"state":"ready"}"#);
+    let faults: [(&[u8], u16, &str); 6] = [
+        (
+            &longer,
+            413,
+            r#"{"error":"too_long","index":0,"length":8193}"#,
+        ),
+        (b"[]", 400, r#"{"error":"not_json","index":0}"#),
+        (
+            br#"{"job_class":"A"}"#,
+            400,
+            r#"{"error":"missing","index":0,"member":"job_id"}"#,
+        ),
+        (
+            br#"{"job_class":"A","job_id":"1","queue_name":7}"#,
+            400,
+            r#"{"error":"wrong_kind","index":0,"member":"queue_name"}"#,
+        ),
+        (
+            br#"{"job_class":"A","job_id":"1","scheduled_at":"soon"}"#,
+            400,
+            r#"{"error":"date_refused","index":0,"member":"scheduled_at"}"#,
+        ),
+        (
+            br#"{"job_class":"A","job_id":"1","arguments":[1.5]}"#,
+            422,
+            r#"{"error":"float_argument","index":0}"#,
+        ),
+    ];
+    for (body, status, text) in faults {
+        let reply = post(rt.alloc(), &mut jobs, &mut clock, body)?;
+        expect(&rt, &reply, status, text);
     }
+    assert_eq!(rt; jobs.jobs().len(), 1);
+    assert_eq!(rt; clock.now(), 2);
     Ok(())
 }
 
 #[test]
 fn numbers_count_up_and_other_requests_are_not_built(rt: HostRuntime) -> Result<(), Fail> {
+    const NOT_BUILT: &str = r#"{"error":"not_built"}"#;
+    let config = settings(rt.alloc())?;
     let mut jobs = JobList::new(rt.alloc());
     let mut clock = MemClock::new(vec![in rt.alloc(); 1, 2, 3]?);
-    for (method, path, text) in [
-        ("POST", "/jobs", r#"{"id":1,"state":"ready"}"#),
-        ("POST", "/jobs/", ""),
-        ("POST", "/Jobs", ""),
-        ("post", "/jobs", ""),
-        ("GET", "/jobs", ""),
-        ("POST", "/jobs", r#"{"id":2,"state":"ready"}"#),
+    for (method, path, status, text) in [
+        ("POST", "/jobs", 201, r#"{"id":1,"state":"ready"}"#),
+        ("POST", "/jobs/", 501, NOT_BUILT),
+        ("POST", "/Jobs", 501, NOT_BUILT),
+        ("post", "/jobs", 501, NOT_BUILT),
+        ("GET", "/jobs", 501, NOT_BUILT),
+        ("POST", "/jobs", 201, r#"{"id":2,"state":"ready"}"#),
     ] {
-        let reply = answer(
-            rt.alloc(),
-            &mut jobs,
-            &mut clock,
-            &request(rt.alloc(), method, path, FIRST)?,
-        );
-        assert!(rt;
-            is_created(&reply, text.as_bytes()) || (text.is_empty() && is_not_built(&reply)),
-            "{method} {path}"
-        );
+        let request = request(rt.alloc(), method, path, FIRST)?;
+        let reply = answer(rt.alloc(), &config, &mut jobs, &mut clock, &request);
+        expect(&rt, &reply, status, text);
     }
     assert_eq!(rt; jobs.jobs().len(), 2);
     assert_eq!(rt; clock.now(), 3);
