@@ -8,4 +8,5 @@ pub mod MemoryDiskView
 pub mod MemoryFile
 pub mod MemoryFileView
 pub mod Moments
+pub mod Opened
 pub mod StoreView

@@ -104,7 +104,9 @@ pub struct HostClock<R: rt::Clock> {
 
 impl<R: rt::Clock> HostClock<R> {
     /// The clock of this runtime.
-    pub fn new(runtime: R) -> Self {
+    pub fn new(runtime: R) -> Self
+        ensures { result.last ≡ 0 }
+    {
         HostClock { runtime, last: 0 }
     }
 }
@@ -128,7 +130,12 @@ impl<R: rt::Clock> Clock for HostClock<R> {
 #[cfg(test)]
 mod tests {
     use super::*;
+    use crate::Opened;
+    use std::path::Path;
+    use std::process::{self, Abort};
+    use std::rt::Files;
     use std::test::Fail;
+    use std::{env, fs};
 
     // Fails, gives or takes as much as fits, and then is at its end: nothing more is given or taken.
     #[derive(Drop)]
@@ -199,6 +206,41 @@ mod tests {
         let now = HostClock::new(rt.clone()?).now();
         assert!(rt; now > 1_577_836_800_000_000);
         assert!(rt; now < 7_258_118_400_000_000);
+        Ok(())
+    }
+
+    // What the first read of the file at this path answers, what it leaves in the buffer, and how many faults there were.
+    fn first_read<R: Files>(rt: &R, path: Path<'_>) -> (Result<usize, Failed>, [u8; 4], u64) {
+        let mut source = StreamSource::new(Opened::of(fs::open(rt, path)));
+        let mut buf = *b"....";
+        let answer = source.read(&mut buf);
+        (answer, buf, source.faults)
+    }
+
+    fn reads<R: Files + AllocGlobal + Abort>(rt: &R, folder: Path<'_>) -> Result<(), Fail> {
+        fs::write(rt, folder.join(rt.alloc(), "plain")?.as_path(), "abc")?;
+        for (name, expected) in [
+            ("plain", (Ok(3), *b"abc.", 0)),
+            ("missing", (Ok(0), *b"....", 0)),
+            ("plain/below", (Err(Failed), *b"....", 1)),
+        ] {
+            let path = folder.join(rt.alloc(), name)?;
+            assert_eq!(rt; first_read(rt, path.as_path()), expected, "at {name}");
+        }
+        Ok(())
+    }
+
+    #[test]
+    fn a_missing_file_reads_as_empty_and_an_unreadable_one_fails(
+        rt: HostRuntime,
+    ) -> Result<(), Fail> {
+        let name = format!(in rt.alloc(); "sq_outside-opened-{}", process::id(rt.process()))?;
+        let folder = env::temp_dir(&rt)?.join(rt.alloc(), name.as_str())?;
+        fs::create_dir(&rt, folder.as_path())?;
+        let read = reads(&rt, folder.as_path());
+        let removed = fs::remove_dir_all(&rt, folder.as_path());
+        read?;
+        removed?;
         Ok(())
     }
 }
