@@ -7,7 +7,7 @@ use Rattle.http_wire.specs.declared.request.WireFault.TheVariants as faults
 use Rattle.http_wire.specs.Reply.{AppendsFront}
 use Rattle.queue_http.specs.Replies.{refusal}
 use Rattle.queue_cli.specs.declared.outcome.End.TheVariants.{BadInput}
-use Rattle.queue_cli.specs.Outcome.{WritesLast, Tells, EndsBy}
+use Rattle.queue_cli.specs.Exec.{WritesLast, Tells, EndsBy}
 
 -- the last piece, written whole or not
 pub last_written : {T E : Type 0} (r : Result T E) (old : Option (List ℕ)) (before : ℕ) (new : Option (List ℕ)) (after : ℕ) (text : List ℕ)

@@ -1,6 +1,7 @@
 -- A run over a stream, request by request.
 use Rattle.std.proofs.Common.{◌≡◌, ◌+◌, ◌≤◌, ◌<◌, inl, inr, ℕ, List, [], ◌∷◌, ◌++◌, length, codes, true, false, Result, Ok, Err, OnOk, OnErr, is_err, Option, None, Some, IfSome, refl, ap, sym, ◌∙◌, subst, arith, append_assoc, append-nil}
 use Rattle.std.specs.Io.KnownBytes.{Keeps, Appends}
+use Rattle.std.proofs.KnownBytes.{Appends-nil, Appends-trans, Appends-kept}
 use Rattle.std.proofs.lemmas.Grind.{flat_map-append}
 use Rattle.job_states.specs.declared.job.JobRow.{JobRow}
 use Rattle.job_states.specs.declared.job.State.{State}
@@ -14,48 +15,45 @@ use Rattle.http_wire.specs.declared.request.Request.{Request}
 use Rattle.http_wire.specs.declared.request.WireFault.{WireFault}
 use Rattle.http_wire.specs.declared.request.WireFault.TheVariants as faults
 use Rattle.http_wire.specs.declared.reply.Reply.{Reply}
+use Rattle.queue_config.specs.declared.config.Config.{Config}
 use Rattle.queue_http.specs.Answers.{Answers}
 use Rattle.queue_cli.specs.Service.{Spelled, Served, texts}
 use Rattle.queue_cli.specs.declared.outcome.End.{End}
-use Rattle.queue_cli.specs.Outcome.{exec_words, Serves, WritesLast, IsDone, IsBad, IsCut, IsUnwritten, IsTooLong, HasOutcome, Tells, EndsBy}
+use Rattle.queue_cli.specs.Exec.{Serves, WritesLast, IsDone, IsBad, IsCut, IsUnwritten, IsTooLong, HasServed, Tells, EndsBy}
 
 -- what holds between two requests
-pub record Serving (moments left : Option (List ℕ)) (ahead : Ahead) (left' : Option (List ℕ)) (jobs : List (JobRow × State)) (later written written' : Option (List ℕ)) : Type 0 where
+pub record Serving (config : Config) (moments left : Option (List ℕ)) (ahead : Ahead) (left' : Option (List ℕ)) (jobs : List (JobRow × State)) (later written written' : Option (List ℕ)) : Type 0 where
   pub requests : List Request
   pub replies : List Reply
   pub spelled : Known left (rest_of ahead left') (λ bytes rest. Spelled bytes requests rest × (ahead.at + length rest ≡ length bytes))
-  pub served : Served [] moments requests replies jobs later
+  pub served : Served config [] moments requests replies jobs later
   pub added : Appends written written' (texts replies)
 
-pub at_start : (moments left written : Option (List ℕ)) → Serving moments left (record { bytes = []; at = 0 }) left [] moments written written
-at_start moments left written = record {
+pub at_start : (config : Config) (moments left written : Option (List ℕ)) → Serving config moments left (record { bytes = []; at = 0 }) left [] moments written written
+at_start config moments left written = record {
   requests = [];
   replies = [];
   spelled = start left;
   served = (refl, refl);
-  added = nothing written;
+  added = Appends-nil written;
 }
   where
     start : (left : Option (List ℕ)) → Known left (rest_of (record { bytes = []; at = 0 }) left) (λ bytes rest. Spelled bytes [] rest × (0 + length rest ≡ length bytes))
     start None = tt
     start (Some bytes) = (refl, omega arith)
 
-    nothing : (written : Option (List ℕ)) → Appends written written []
-    nothing None = tt
-    nothing (Some bytes) = sym (append-nil bytes)
-
 spelled_more : (bytes mid rest : List ℕ) (requests : List Request) (request : Request) → Spelled bytes requests mid → IsRequest mid request rest → Spelled bytes (requests ++ request ∷ []) rest
 spelled_more bytes mid rest [] request spelled is = (rest, (let P : List ℕ → Type 0 = λ bytes. IsRequest bytes request rest in subst P spelled is), refl)
 spelled_more bytes mid rest (first ∷ requests) request (next, is_first, spelled) is = (next, is_first, spelled_more next mid rest requests request spelled is)
 
-served_more : (jobs mid jobs' : List (JobRow × State)) (moments now later : Option (List ℕ)) (requests : List Request) (replies : List Reply) (request : Request) (reply : Reply)
-    → Served jobs moments requests replies mid now → Answers request mid jobs' now later reply → Served jobs moments (requests ++ request ∷ []) (replies ++ reply ∷ []) jobs' later
-served_more jobs mid jobs' moments now later [] [] request reply (same, same') answers =
-    (jobs', later, (let P : List (JobRow × State) → Type 0 = λ old. Answers request old jobs' moments later reply in subst P same (let Q : Option (List ℕ) → Type 0 = λ at. Answers request mid jobs' at later reply in subst Q same' answers)), (refl, refl))
-served_more jobs mid jobs' moments now later [] (r ∷ replies) request reply served answers = absurd served
-served_more jobs mid jobs' moments now later (q ∷ requests) [] request reply served answers = absurd served
-served_more jobs mid jobs' moments now later (q ∷ requests) (r ∷ replies) request reply (next, soon, first, served) answers =
-    (next, soon, first, served_more next mid jobs' soon now later requests replies request reply served answers)
+served_more : (config : Config) (jobs mid jobs' : List (JobRow × State)) (moments now later : Option (List ℕ)) (requests : List Request) (replies : List Reply) (request : Request) (reply : Reply)
+    → Served config jobs moments requests replies mid now → Answers config request mid jobs' now later reply → Served config jobs moments (requests ++ request ∷ []) (replies ++ reply ∷ []) jobs' later
+served_more config jobs mid jobs' moments now later [] [] request reply (same, same') answers =
+    (jobs', later, (let P : List (JobRow × State) → Type 0 = λ old. Answers config request old jobs' moments later reply in subst P same (let Q : Option (List ℕ) → Type 0 = λ at. Answers config request mid jobs' at later reply in subst Q same' answers)), (refl, refl))
+served_more config jobs mid jobs' moments now later [] (r ∷ replies) request reply served answers = absurd served
+served_more config jobs mid jobs' moments now later (q ∷ requests) [] request reply served answers = absurd served
+served_more config jobs mid jobs' moments now later (q ∷ requests) (r ∷ replies) request reply (next, soon, first, served) answers =
+    (next, soon, first, served_more config next mid jobs' soon now later requests replies request reply served answers)
 
 known_more : (left mid rest : Option (List ℕ)) (at at' : ℕ) (requests : List Request) (request : Request) → Known left mid (λ bytes mid. Spelled bytes requests mid × (at + length mid ≡ length bytes))
     → Known mid rest (λ mid rest. IsRequest mid request rest × (at' + length rest ≡ at + length mid)) → Known left rest (λ bytes rest. Spelled bytes (requests ++ request ∷ []) rest × (at' + length rest ≡ length bytes))
@@ -71,30 +69,26 @@ taken old new (Some mid) None request takes = absurd takes
 taken old new (Some mid) (Some rest) request takes = (takes.is_request, takes.place)
 
 added_more : (old mid new : Option (List ℕ)) (replies : List Reply) (reply : Reply) → Appends old mid (texts replies) → Appends mid new (reply_text reply) → Appends old new (texts (replies ++ reply ∷ []))
-added_more None mid new replies reply first second = tt
-added_more (Some xs) None new replies reply first second = absurd first
-added_more (Some xs) (Some ys) None replies reply first second = absurd second
-added_more (Some xs) (Some ys) (Some zs) replies reply first second =
-    second ∙ ap (λ w. w ++ reply_text reply) first ∙ append_assoc xs (texts replies) (reply_text reply)
-    ∙ ap (λ w. xs ++ w) (ap (λ w. texts replies ++ w) (sym (append-nil (reply_text reply))) ∙ sym (flat_map-append reply_text replies (reply ∷ [])))
+added_more old mid new replies reply first second =
+    let P : List ℕ → Type 0 = Appends old new in
+    subst P (ap (λ w. texts replies ++ w) (sym (append-nil (reply_text reply))) ∙ sym (flat_map-append reply_text replies (reply ∷ []))) (Appends-trans old mid new (texts replies) (reply_text reply) first second)
 
-pub serve_more : (moments left left' left'' : Option (List ℕ)) (ahead ahead' : Ahead) (jobs jobs' : List (JobRow × State)) (now later written mid written' : Option (List ℕ)) (request : Request) (reply : Reply)
-    → Serving moments left ahead left' jobs now written mid → Takes ahead left' request ahead' left'' → Answers request jobs jobs' now later reply → Appends mid written' (reply_text reply)
-    → Serving moments left ahead' left'' jobs' later written written'
-serve_more moments left left' left'' ahead ahead' jobs jobs' now later written mid written' request reply serving takes answers added = record {
+pub serve_more : (config : Config) (moments left left' left'' : Option (List ℕ)) (ahead ahead' : Ahead) (jobs jobs' : List (JobRow × State)) (now later written mid written' : Option (List ℕ)) (request : Request) (reply : Reply)
+    → Serving config moments left ahead left' jobs now written mid → Takes ahead left' request ahead' left'' → Answers config request jobs jobs' now later reply → Appends mid written' (reply_text reply)
+    → Serving config moments left ahead' left'' jobs' later written written'
+serve_more config moments left left' left'' ahead ahead' jobs jobs' now later written mid written' request reply serving takes answers added = record {
   requests = serving.requests ++ request ∷ [];
   replies = serving.replies ++ reply ∷ [];
   spelled = known_more left (rest_of ahead left') (rest_of ahead' left'') ahead.at ahead'.at serving.requests request serving.spelled (taken ahead ahead' left' left'' request takes);
-  served = served_more [] jobs jobs' moments now later serving.requests serving.replies request reply serving.served answers;
+  served = served_more config [] jobs jobs' moments now later serving.requests serving.replies request reply serving.served answers;
   added = added_more written mid written' serving.replies reply serving.added added;
 }
 
 -- What a run has done when it ends.
 
-serves_of : (moments left : Option (List ℕ)) (ahead : Ahead) (left' : Option (List ℕ)) (jobs : List (JobRow × State)) (later written written' : Option (List ℕ))
-    → (serving : Serving moments left ahead left' jobs later written written') → Serves exec_words moments left (rest_of ahead left') serving.replies
-serves_of moments left ahead left' jobs later written written' serving = record {
-  exec = refl;
+serves_of : (config : Config) (moments left : Option (List ℕ)) (ahead : Ahead) (left' : Option (List ℕ)) (jobs : List (JobRow × State)) (later written written' : Option (List ℕ))
+    → (serving : Serving config moments left ahead left' jobs later written written') → Serves config moments left (rest_of ahead left') serving.replies
+serves_of config moments left ahead left' jobs later written written' serving = record {
   requests = serving.requests;
   spelled = only left (rest_of ahead left') serving.spelled;
   jobs = jobs;
@@ -107,18 +101,6 @@ serves_of moments left ahead left' jobs later written written' serving = record 
     only (Some bytes) None known = absurd known
     only (Some bytes) (Some rest) known = known.0
 
-appends_then : (old mid new : Option (List ℕ)) (a b : List ℕ) → Appends old mid a → Appends mid new b → Appends old new (a ++ b)
-appends_then None mid new a b first second = tt
-appends_then (Some xs) None new a b first second = absurd first
-appends_then (Some xs) (Some ys) None a b first second = absurd second
-appends_then (Some xs) (Some ys) (Some zs) a b first second = second ∙ ap (λ w. w ++ b) first ∙ append_assoc xs a b
-
-appends_kept : (old mid new : Option (List ℕ)) (a : List ℕ) → Appends old mid a → Keeps mid new → Appends old new a
-appends_kept None mid new a first kept = tt
-appends_kept (Some xs) None new a first kept = absurd first
-appends_kept (Some xs) (Some ys) None a first kept = absurd kept
-appends_kept (Some xs) (Some ys) (Some zs) a first kept = kept ∙ first
-
 rose_from : (first before after : ℕ) → first ≤ before → Rose before after → Rose first after
 rose_from first before after le rose = grind arith
 
@@ -128,33 +110,33 @@ last_then old first mid before new after front last added le written = record {
   part = written.part;
   behind = written.behind;
   parts = written.parts;
-  written = appends_then old mid new front written.part added written.written;
+  written = Appends-trans old mid new front written.part added written.written;
   whole = elim written.whole [ inl none ↦ inl none | inr rose ↦ inr (rose_from first before after le rose) ];
 }
 
 -- one more request was answered, whatever was written
-answered_more : (moments left left' left'' : Option (List ℕ)) (ahead ahead' : Ahead) (jobs jobs' : List (JobRow × State)) (now later written mid : Option (List ℕ)) (request : Request) (reply : Reply)
-    → (serving : Serving moments left ahead left' jobs now written mid) → Takes ahead left' request ahead' left'' → Answers request jobs jobs' now later reply
-    → Serves exec_words moments left (rest_of ahead' left'') (serving.replies ++ reply ∷ [])
+answered_more : (config : Config) (moments left left' left'' : Option (List ℕ)) (ahead ahead' : Ahead) (jobs jobs' : List (JobRow × State)) (now later written mid : Option (List ℕ)) (request : Request) (reply : Reply)
+    → (serving : Serving config moments left ahead left' jobs now written mid) → Takes ahead left' request ahead' left'' → Answers config request jobs jobs' now later reply
+    → Serves config moments left (rest_of ahead' left'') (serving.replies ++ reply ∷ [])
 unfolding serve_more
-answered_more moments left left' left'' ahead ahead' jobs jobs' now later written mid request reply serving takes answers =
-    let untold : Serving moments left ahead left' jobs now None None = record { requests = serving.requests; replies = serving.replies; spelled = serving.spelled; served = serving.served; added = tt } in
-    serves_of moments left ahead' left'' jobs' later None None
-    (serve_more moments left left' left'' ahead ahead' jobs jobs' now later None None None request reply untold takes answers tt)
+answered_more config moments left left' left'' ahead ahead' jobs jobs' now later written mid request reply serving takes answers =
+    let untold : Serving config moments left ahead left' jobs now None None = record { requests = serving.requests; replies = serving.replies; spelled = serving.spelled; served = serving.served; added = tt } in
+    serves_of config moments left ahead' left'' jobs' later None None
+    (serve_more config moments left left' left'' ahead ahead' jobs jobs' now later None None None request reply untold takes answers tt)
 
 -- the output failed
-pub unwritten : (moments left left' left'' : Option (List ℕ)) (ahead ahead' : Ahead) (jobs jobs' : List (JobRow × State)) (now later written mid written' : Option (List ℕ)) (request : Request) (reply : Reply) (reads reads' writes writes' : ℕ) (after : Option (List ℕ))
-    → Serving moments left ahead left' jobs now written mid → Takes ahead left' request ahead' left'' → Answers request jobs jobs' now later reply → AppendsFront mid written' (reply_text reply)
-    → IsUnwritten exec_words moments (record { left = left; read_faults = reads; written = written; write_faults = writes }) (record { left = after; read_faults = reads'; written = written'; write_faults = writes' })
-unwritten moments left left' left'' ahead ahead' jobs jobs' now later written mid written' request reply reads reads' writes writes' after serving takes answers front = record {
+pub unwritten : (config : Config) (moments left left' left'' : Option (List ℕ)) (ahead ahead' : Ahead) (jobs jobs' : List (JobRow × State)) (now later written mid written' : Option (List ℕ)) (request : Request) (reply : Reply) (reads reads' writes writes' : ℕ) (after : Option (List ℕ))
+    → Serving config moments left ahead left' jobs now written mid → Takes ahead left' request ahead' left'' → Answers config request jobs jobs' now later reply → AppendsFront mid written' (reply_text reply)
+    → IsUnwritten config moments (record { left = left; read_faults = reads; written = written; write_faults = writes }) (record { left = after; read_faults = reads'; written = written'; write_faults = writes' })
+unwritten config moments left left' left'' ahead ahead' jobs jobs' now later written mid written' request reply reads reads' writes writes' after serving takes answers front = record {
   rest = rest_of ahead' left'';
   replies = serving.replies ++ reply ∷ [];
-  serves = answered_more moments left left' left'' ahead ahead' jobs jobs' now later written mid request reply serving takes answers;
+  serves = answered_more config moments left left' left'' ahead ahead' jobs jobs' now later written mid request reply serving takes answers;
   written = record {
     front = texts serving.replies ++ front.front;
     back = front.back;
     whole = flat_map-append reply_text serving.replies (reply ∷ []) ∙ ap (λ w. texts serving.replies ++ w) (append-nil (reply_text reply) ∙ front.whole) ∙ sym (append_assoc (texts serving.replies) front.front front.back);
-    added = appends_then written mid written' (texts serving.replies) front.front serving.added front.added;
+    added = Appends-trans written mid written' (texts serving.replies) front.front serving.added front.added;
   };
 }
 
@@ -177,25 +159,25 @@ read_known (Some bytes) ahead None after requests known read = absurd known
 read_known (Some bytes) ahead (Some rest) None requests known read = absurd read
 read_known (Some bytes) ahead (Some rest) (Some none) requests known read = read
 
-pub done : (moments left : Option (List ℕ)) (ahead : Ahead) (left' : Option (List ℕ)) (jobs : List (JobRow × State)) (later written written' : Option (List ℕ)) (reads reads' writes writes' : ℕ) (after : Option (List ℕ))
-    → Serving moments left ahead left' jobs later written written' → EndsIn ahead left' after
-    → IsDone exec_words moments (record { left = left; read_faults = reads; written = written; write_faults = writes }) (record { left = after; read_faults = reads'; written = written'; write_faults = writes' })
-done moments left ahead left' jobs later written written' reads reads' writes writes' after serving ends = record {
+pub done : (config : Config) (moments left : Option (List ℕ)) (ahead : Ahead) (left' : Option (List ℕ)) (jobs : List (JobRow × State)) (later written written' : Option (List ℕ)) (reads reads' writes writes' : ℕ) (after : Option (List ℕ))
+    → Serving config moments left ahead left' jobs later written written' → EndsIn ahead left' after
+    → IsDone config moments (record { left = left; read_faults = reads; written = written; write_faults = writes }) (record { left = after; read_faults = reads'; written = written'; write_faults = writes' })
+done config moments left ahead left' jobs later written written' reads reads' writes writes' after serving ends = record {
   rest = rest_of ahead left';
   replies = serving.replies;
-  serves = serves_of moments left ahead left' jobs later written written' serving;
+  serves = serves_of config moments left ahead left' jobs later written written' serving;
   at_end = ends.0;
   read = read_known left ahead left' after serving.requests serving.spelled ends.1;
   written = serving.added;
 }
 
-bad : (moments left : Option (List ℕ)) (ahead : Ahead) (left' : Option (List ℕ)) (jobs : List (JobRow × State)) (later written mid written' : Option (List ℕ)) (reads reads' first writes writes' : ℕ) (after : Option (List ℕ)) (place : ℕ) (why : Refusal)
-    → Serving moments left ahead left' jobs later written mid → place ≡ ahead.at → IfSome (rest_of ahead left') (λ bytes. IsRefused bytes why) → Tells (fault_at place why) mid writes written' writes' → first ≤ writes
-    → IsBad exec_words moments (record { left = left; read_faults = reads; written = written; write_faults = first }) (record { left = after; read_faults = reads'; written = written'; write_faults = writes' })
-bad moments left ahead left' jobs later written mid written' reads reads' first writes writes' after place why serving is refused (last, told, written_last) le = record {
+bad : (config : Config) (moments left : Option (List ℕ)) (ahead : Ahead) (left' : Option (List ℕ)) (jobs : List (JobRow × State)) (later written mid written' : Option (List ℕ)) (reads reads' first writes writes' : ℕ) (after : Option (List ℕ)) (place : ℕ) (why : Refusal)
+    → Serving config moments left ahead left' jobs later written mid → place ≡ ahead.at → IfSome (rest_of ahead left') (λ bytes. IsRefused bytes why) → Tells (fault_at place why) mid writes written' writes' → first ≤ writes
+    → IsBad config moments (record { left = left; read_faults = reads; written = written; write_faults = first }) (record { left = after; read_faults = reads'; written = written'; write_faults = writes' })
+bad config moments left ahead left' jobs later written mid written' reads reads' first writes writes' after place why serving is refused (last, told, written_last) le = record {
   rest = rest_of ahead left';
   replies = serving.replies;
-  serves = serves_of moments left ahead left' jobs later written mid serving;
+  serves = serves_of config moments left ahead left' jobs later written mid serving;
   place = place;
   why = why;
   refused = refused_known left (rest_of ahead left') ahead.at place serving.requests why is serving.spelled refused;
@@ -204,49 +186,49 @@ bad moments left ahead left' jobs later written mid written' reads reads' first 
   written = last_then written first mid writes written' writes' (texts serving.replies) (reply_text last) serving.added le written_last;
 }
 
-cut : (moments left : Option (List ℕ)) (ahead : Ahead) (left' : Option (List ℕ)) (jobs : List (JobRow × State)) (later written mid written' : Option (List ℕ)) (reads reads' writes writes' : ℕ) (after : Option (List ℕ))
-    → Serving moments left ahead left' jobs later written mid → Keeps mid written'
-    → IsCut exec_words moments (record { left = left; read_faults = reads; written = written; write_faults = writes }) (record { left = after; read_faults = reads'; written = written'; write_faults = writes' })
-cut moments left ahead left' jobs later written mid written' reads reads' writes writes' after serving kept = record {
+cut : (config : Config) (moments left : Option (List ℕ)) (ahead : Ahead) (left' : Option (List ℕ)) (jobs : List (JobRow × State)) (later written mid written' : Option (List ℕ)) (reads reads' writes writes' : ℕ) (after : Option (List ℕ))
+    → Serving config moments left ahead left' jobs later written mid → Keeps mid written'
+    → IsCut config moments (record { left = left; read_faults = reads; written = written; write_faults = writes }) (record { left = after; read_faults = reads'; written = written'; write_faults = writes' })
+cut config moments left ahead left' jobs later written mid written' reads reads' writes writes' after serving kept = record {
   rest = rest_of ahead left';
   replies = serving.replies;
-  serves = serves_of moments left ahead left' jobs later written mid serving;
-  written = appends_kept written mid written' (texts serving.replies) serving.added kept;
+  serves = serves_of config moments left ahead left' jobs later written mid serving;
+  written = Appends-kept written mid written' (texts serving.replies) serving.added kept;
 }
 
-too_long : (moments left : Option (List ℕ)) (ahead : Ahead) (left' : Option (List ℕ)) (jobs : List (JobRow × State)) (later written mid written' : Option (List ℕ)) (reads reads' first writes writes' : ℕ) (after : Option (List ℕ))
-    → Serving moments left ahead left' jobs later written mid → IfSome (rest_of ahead left') (λ bytes. 1073741824 < ahead.at + length bytes) → WritesLast mid writes written' writes' [] (codes "input too long\n") → first ≤ writes
-    → IsTooLong exec_words moments (record { left = left; read_faults = reads; written = written; write_faults = first }) (record { left = after; read_faults = reads'; written = written'; write_faults = writes' })
-too_long moments left ahead left' jobs later written mid written' reads reads' first writes writes' after serving long written_last le = record {
+too_long : (config : Config) (moments left : Option (List ℕ)) (ahead : Ahead) (left' : Option (List ℕ)) (jobs : List (JobRow × State)) (later written mid written' : Option (List ℕ)) (reads reads' first writes writes' : ℕ) (after : Option (List ℕ))
+    → Serving config moments left ahead left' jobs later written mid → IfSome (rest_of ahead left') (λ bytes. 1073741824 < ahead.at + length bytes) → WritesLast mid writes written' writes' [] (codes "input too long\n") → first ≤ writes
+    → IsTooLong config moments (record { left = left; read_faults = reads; written = written; write_faults = first }) (record { left = after; read_faults = reads'; written = written'; write_faults = writes' })
+too_long config moments left ahead left' jobs later written mid written' reads reads' first writes writes' after serving long written_last le = record {
   rest = rest_of ahead left';
   replies = serving.replies;
-  serves = serves_of moments left ahead left' jobs later written mid serving;
+  serves = serves_of config moments left ahead left' jobs later written mid serving;
   long = long_known left (rest_of ahead left') ahead.at serving.requests serving.spelled long;
   written = last_then written first mid writes written' writes' (texts serving.replies) (codes "input too long\n") serving.added le written_last;
 }
 
 -- the stream's fault ends the run
-pub by_fault : (moments left : Option (List ℕ)) (ahead : Ahead) (left' : Option (List ℕ)) (jobs : List (JobRow × State)) (later written mid written' : Option (List ℕ)) (earliest reads reads' first writes writes' : ℕ) (after : Option (List ℕ)) (fault : WireFault) (end : End)
-    → Serving moments left ahead left' jobs later written mid → HasCause ahead left' reads reads' fault → EndsBy fault mid writes written' writes' end → earliest ≤ reads → first ≤ writes
-    → HasOutcome exec_words moments (record { left = left; read_faults = earliest; written = written; write_faults = first }) (record { left = after; read_faults = reads'; written = written'; write_faults = writes' }) end
-by_fault moments left ahead left' jobs later written mid written' earliest reads reads' first writes writes' after (faults.BadRequest at) end serving (is, refused) (ended, tells) le le' =
-    let P : End → Type 0 = HasOutcome exec_words moments (record { left = left; read_faults = earliest; written = written; write_faults = first }) (record { left = after; read_faults = reads'; written = written'; write_faults = writes' }) in
-    subst P (sym ended) (bad moments left ahead left' jobs later written mid written' earliest reads' first writes writes' after at Bad serving is refused tells le')
-by_fault moments left ahead left' jobs later written mid written' earliest reads reads' first writes writes' after (faults.TooLarge at len) end serving (is, refused) (ended, tells) le le' =
-    let P : End → Type 0 = HasOutcome exec_words moments (record { left = left; read_faults = earliest; written = written; write_faults = first }) (record { left = after; read_faults = reads'; written = written'; write_faults = writes' }) in
-    subst P (sym ended) (bad moments left ahead left' jobs later written mid written' earliest reads' first writes writes' after at (TooLarge len) serving is refused tells le')
-by_fault moments left ahead left' jobs later written mid written' earliest reads reads' first writes writes' after (faults.Unsupported at) end serving (is, refused) (ended, tells) le le' =
-    let P : End → Type 0 = HasOutcome exec_words moments (record { left = left; read_faults = earliest; written = written; write_faults = first }) (record { left = after; read_faults = reads'; written = written'; write_faults = writes' }) in
-    subst P (sym ended) (bad moments left ahead left' jobs later written mid written' earliest reads' first writes writes' after at Unsupported serving is refused tells le')
-by_fault moments left ahead left' jobs later written mid written' earliest reads reads' first writes writes' after faults.ReadFault end serving rose (ended, kept) le le' =
-    let P : End → Type 0 = HasOutcome exec_words moments (record { left = left; read_faults = earliest; written = written; write_faults = first }) (record { left = after; read_faults = reads'; written = written'; write_faults = writes' }) in
-    subst P (sym ended) (rose_from earliest reads reads' le rose, cut moments left ahead left' jobs later written mid written' earliest reads' first writes' after serving kept)
-by_fault moments left ahead left' jobs later written mid written' earliest reads reads' first writes writes' after faults.InputTooLong end serving long (ended, written_last) le le' =
-    let P : End → Type 0 = HasOutcome exec_words moments (record { left = left; read_faults = earliest; written = written; write_faults = first }) (record { left = after; read_faults = reads'; written = written'; write_faults = writes' }) in
-    subst P (sym ended) (too_long moments left ahead left' jobs later written mid written' earliest reads' first writes writes' after serving long written_last le')
-by_fault moments left ahead left' jobs later written mid written' earliest reads reads' first writes writes' after faults.NoMemory end serving cause (ended, kept) le le' =
-    let P : End → Type 0 = HasOutcome exec_words moments (record { left = left; read_faults = earliest; written = written; write_faults = first }) (record { left = after; read_faults = reads'; written = written'; write_faults = writes' }) in
-    subst P (sym ended) (cut moments left ahead left' jobs later written mid written' earliest reads' first writes' after serving kept)
+pub by_fault : (config : Config) (moments left : Option (List ℕ)) (ahead : Ahead) (left' : Option (List ℕ)) (jobs : List (JobRow × State)) (later written mid written' : Option (List ℕ)) (earliest reads reads' first writes writes' : ℕ) (after : Option (List ℕ)) (fault : WireFault) (end : End)
+    → Serving config moments left ahead left' jobs later written mid → HasCause ahead left' reads reads' fault → EndsBy fault mid writes written' writes' end → earliest ≤ reads → first ≤ writes
+    → HasServed config moments (record { left = left; read_faults = earliest; written = written; write_faults = first }) (record { left = after; read_faults = reads'; written = written'; write_faults = writes' }) end
+by_fault config moments left ahead left' jobs later written mid written' earliest reads reads' first writes writes' after (faults.BadRequest at) end serving (is, refused) (ended, tells) le le' =
+    let P : End → Type 0 = HasServed config moments (record { left = left; read_faults = earliest; written = written; write_faults = first }) (record { left = after; read_faults = reads'; written = written'; write_faults = writes' }) in
+    subst P (sym ended) (bad config moments left ahead left' jobs later written mid written' earliest reads' first writes writes' after at Bad serving is refused tells le')
+by_fault config moments left ahead left' jobs later written mid written' earliest reads reads' first writes writes' after (faults.TooLarge at len) end serving (is, refused) (ended, tells) le le' =
+    let P : End → Type 0 = HasServed config moments (record { left = left; read_faults = earliest; written = written; write_faults = first }) (record { left = after; read_faults = reads'; written = written'; write_faults = writes' }) in
+    subst P (sym ended) (bad config moments left ahead left' jobs later written mid written' earliest reads' first writes writes' after at (TooLarge len) serving is refused tells le')
+by_fault config moments left ahead left' jobs later written mid written' earliest reads reads' first writes writes' after (faults.Unsupported at) end serving (is, refused) (ended, tells) le le' =
+    let P : End → Type 0 = HasServed config moments (record { left = left; read_faults = earliest; written = written; write_faults = first }) (record { left = after; read_faults = reads'; written = written'; write_faults = writes' }) in
+    subst P (sym ended) (bad config moments left ahead left' jobs later written mid written' earliest reads' first writes writes' after at Unsupported serving is refused tells le')
+by_fault config moments left ahead left' jobs later written mid written' earliest reads reads' first writes writes' after faults.ReadFault end serving rose (ended, kept) le le' =
+    let P : End → Type 0 = HasServed config moments (record { left = left; read_faults = earliest; written = written; write_faults = first }) (record { left = after; read_faults = reads'; written = written'; write_faults = writes' }) in
+    subst P (sym ended) (rose_from earliest reads reads' le rose, cut config moments left ahead left' jobs later written mid written' earliest reads' first writes' after serving kept)
+by_fault config moments left ahead left' jobs later written mid written' earliest reads reads' first writes writes' after faults.InputTooLong end serving long (ended, written_last) le le' =
+    let P : End → Type 0 = HasServed config moments (record { left = left; read_faults = earliest; written = written; write_faults = first }) (record { left = after; read_faults = reads'; written = written'; write_faults = writes' }) in
+    subst P (sym ended) (too_long config moments left ahead left' jobs later written mid written' earliest reads' first writes writes' after serving long written_last le')
+by_fault config moments left ahead left' jobs later written mid written' earliest reads reads' first writes writes' after faults.NoMemory end serving cause (ended, kept) le le' =
+    let P : End → Type 0 = HasServed config moments (record { left = left; read_faults = earliest; written = written; write_faults = first }) (record { left = after; read_faults = reads'; written = written'; write_faults = writes' }) in
+    subst P (sym ended) (cut config moments left ahead left' jobs later written mid written' earliest reads' first writes' after serving kept)
 
 pub err_known : {T E : Type 0} (r : Result T E) (P : Type 0) → is_err r ≡ true → OnErr r P → P
 err_known (Ok x) P never fact = (cc)

@@ -1,105 +1,68 @@
--- How a run may end, and what was written then.
-use Rattle.std.specs.Prelude.{◌≡◌, ◌⊎◌, ◌+◌, ◌<◌, ℕ, List, [], ◌∷◌, ◌++◌, length, codes, Option, Some, IfSome}
-use Rattle.std.specs.Io.KnownBytes.{Keeps, Appends}
-use Rattle.job_states.specs.declared.job.JobRow.{JobRow}
-use Rattle.job_states.specs.declared.job.State.{State}
+-- How a run may end. The words come first, then the settings, and then the input.
+use Rattle.std.specs.Prelude.{◌≡◌, ◌⊎◌, ℕ, List, [], ◌∷◌, codes, Option}
+use Rattle.std.specs.Io.KnownBytes.{Keeps}
 use Rattle.sq_outside.specs.Fault.{Rose}
-use Rattle.http_wire.specs.declared.head.Refusal.{Refusal}
-use Rattle.http_wire.specs.declared.request.Request.{Request}
-use Rattle.http_wire.specs.declared.request.TheConstants.{MAX_INPUT}
-use Rattle.http_wire.specs.declared.request.WireFault.{WireFault}
-use Rattle.http_wire.specs.declared.request.WireFault.TheVariants as faults
-use Rattle.http_wire.specs.declared.reply.Reply.{Reply}
-use Rattle.http_wire.specs.Reply.{reply_text, AppendsFront}
-use Rattle.http_wire.specs.Stream.{Known, IsEnd, IsRefused, fault_at}
-use Rattle.queue_http.specs.Replies.{refusal, no_memory}
+use Rattle.queue_config.specs.declared.config.Config.{Config}
 use Rattle.queue_cli.specs.declared.outcome.End.{End}
-use Rattle.queue_cli.specs.declared.outcome.End.TheVariants.{Done, BadInput, Usage, ReadFault, WriteFault, NoMemory, InputTooLong}
-use Rattle.queue_cli.specs.Service.{Spelled, Served, texts}
-use Rattle.queue_cli.specs.Streams.{Streams}
+use Rattle.queue_cli.specs.declared.outcome.End.TheVariants.{Done, BadInput, Usage, BadSettings, ReadFault, WriteFault, NoMemory, InputTooLong}
+use Rattle.queue_cli.specs.Exec.{WritesLast, HasServed}
+use Rattle.queue_cli.specs.Settings.{HasSettings, AreRefused, refusal_line}
+use Rattle.queue_cli.specs.declared.settings.NoSettings.{NoSettings}
+use Rattle.queue_cli.specs.declared.settings.NoSettings.TheVariants as why
+use Rattle.queue_cli.specs.Streams.{Told, Streams}
 
 abbrev pub exec_words : List (List ℕ)
 exec_words = codes "exec" ∷ []
 
--- the requests at the front of the input were answered in turn; rest is what follows them
-pub record Serves (words : List (List ℕ)) (moments left rest : Option (List ℕ)) (replies : List Reply) : Type 0 where
-  pub exec : words ≡ exec_words
-  pub requests : List Request
-  pub spelled : Known left rest (λ bytes rest. Spelled bytes requests rest)
-  pub jobs : List (JobRow × State)
-  pub later : Option (List ℕ)
-  pub served : Served [] moments requests replies jobs later
+-- nothing is read of the input, and one line is written, or a front of it where the output failed
+pub record SaysOnly (old new : Streams) (line : List ℕ) : Type 0 where
+  pub input : Keeps old.left new.left
+  pub written : WritesLast old.written old.write_faults new.written new.write_faults [] line
 
--- front was written, and then the last piece, or a front of it where the output failed
-pub record WritesLast (old : Option (List ℕ)) (before : ℕ) (new : Option (List ℕ)) (after : ℕ) (front last : List ℕ) : Type 0 where
-  pub part : List ℕ
-  pub behind : List ℕ
-  pub parts : last ≡ part ++ behind
-  pub written : Appends old new (front ++ part)
-  pub whole : (behind ≡ []) ⊎ Rose before after
+-- nothing is read of the input and nothing is written
+pub record SaysNothing (old new : Streams) : Type 0 where
+  pub input : Keeps old.left new.left
+  pub written : Keeps old.written new.written
 
--- the input was read to its end
-pub record IsDone (words : List (List ℕ)) (moments : Option (List ℕ)) (old new : Streams) : Type 0 where
-  pub rest : Option (List ℕ)
-  pub replies : List Reply
-  pub serves : Serves words moments old.left rest replies
-  pub at_end : IfSome rest IsEnd
-  pub read : Known old.left new.left (λ _ left. left ≡ [])
-  pub written : Appends old.written new.written (texts replies)
+-- the words are no command
+pub record IsUsage (words : List (List ℕ)) (file file' : Told) (old new : Streams) : Type 0 where
+  pub unknown : words ≡ exec_words → ⊥
+  pub settings : Keeps file.left file'.left
+  pub says : SaysOnly old new (codes "usage\n")
 
--- the rest of the input is refused at its place, and this is said
-pub record IsBad (words : List (List ℕ)) (moments : Option (List ℕ)) (old new : Streams) : Type 0 where
-  pub rest : Option (List ℕ)
-  pub replies : List Reply
-  pub serves : Serves words moments old.left rest replies
-  pub place : ℕ
-  pub why : Refusal
-  pub refused : Known old.left rest (λ bytes rest. IsRefused rest why × (place + length rest ≡ length bytes))
-  pub last : Reply
-  pub told : (refusal (fault_at place why) ≡ Some last) ⊎ (last ≡ no_memory)
-  pub written : WritesLast old.written old.write_faults new.written new.write_faults (texts replies) (reply_text last)
+-- the settings are refused, and this is said
+pub record IsRefusal (file file' : Told) (old new : Streams) : Type 0 where
+  pub number : ℕ
+  pub key : List ℕ
+  pub refused : AreRefused file file' number key
+  pub says : SaysOnly old new (refusal_line number key)
 
--- some requests were answered, and their replies are what was written
-pub record IsCut (words : List (List ℕ)) (moments : Option (List ℕ)) (old new : Streams) : Type 0 where
-  pub rest : Option (List ℕ)
-  pub replies : List Reply
-  pub serves : Serves words moments old.left rest replies
-  pub written : Appends old.written new.written (texts replies)
+-- how a run ends that has no settings
+abbrev pub EndsBefore : Told → Told → Streams → Streams → End → Type 0
+EndsBefore file file' old new BadSettings = IsRefusal file file' old new
+EndsBefore file file' old new ReadFault = Rose file.faults file'.faults × SaysNothing old new
+EndsBefore file file' old new NoMemory = SaysNothing old new
+EndsBefore file file' old new Done = ⊥
+EndsBefore file file' old new BadInput = ⊥
+EndsBefore file file' old new Usage = ⊥
+EndsBefore file file' old new WriteFault = ⊥
+EndsBefore file file' old new InputTooLong = ⊥
 
--- the output failed: what was written is a front of the replies
-pub record IsUnwritten (words : List (List ℕ)) (moments : Option (List ℕ)) (old new : Streams) : Type 0 where
-  pub rest : Option (List ℕ)
-  pub replies : List Reply
-  pub serves : Serves words moments old.left rest replies
-  pub written : AppendsFront old.written new.written (texts replies)
+-- how a run ends that has them
+pub record EndsAfter (moments : Option (List ℕ)) (file file' : Told) (old new : Streams) (end : End) : Type 0 where
+  pub config : Config
+  pub settings : HasSettings file file' config
+  pub served : HasServed config moments old new end
 
--- the input is longer than what is taken, and this is said
-pub record IsTooLong (words : List (List ℕ)) (moments : Option (List ℕ)) (old new : Streams) : Type 0 where
-  pub rest : Option (List ℕ)
-  pub replies : List Reply
-  pub serves : Serves words moments old.left rest replies
-  pub long : IfSome old.left (λ bytes. MAX_INPUT < length bytes)
-  pub written : WritesLast old.written old.write_faults new.written new.write_faults (texts replies) (codes "input too long\n")
+-- what each end says of the settings' source and of the streams, from the old ones to the new ones
+abbrev pub HasOutcome : List (List ℕ) → Option (List ℕ) → Told → Told → Streams → Streams → End → Type 0
+HasOutcome words moments file file' old new end =
+    ((end ≡ Usage) × IsUsage words file file' old new)
+    ⊎ ((words ≡ exec_words) × (EndsBefore file file' old new end ⊎ EndsAfter moments file file' old new end))
 
--- what each end of a run says of the streams, from the old ones to the new ones
-abbrev pub HasOutcome : List (List ℕ) → Option (List ℕ) → Streams → Streams → End → Type 0
-HasOutcome words moments old new Done = IsDone words moments old new
-HasOutcome words moments old new BadInput = IsBad words moments old new
-HasOutcome words moments old new Usage = (words ≡ exec_words → ⊥) × Keeps old.left new.left × WritesLast old.written old.write_faults new.written new.write_faults [] (codes "usage\n")
-HasOutcome words moments old new ReadFault = Rose old.read_faults new.read_faults × IsCut words moments old new
-HasOutcome words moments old new WriteFault = Rose old.write_faults new.write_faults × IsUnwritten words moments old new
-HasOutcome words moments old new NoMemory = IsCut words moments old new
-HasOutcome words moments old new InputTooLong = IsTooLong words moments old new
-
--- the refusal's reply is the last that is written
-abbrev pub Tells : WireFault → Option (List ℕ) → ℕ → Option (List ℕ) → ℕ → Type 0
-Tells fault old before new after = (last : Reply) × ((refusal fault ≡ Some last) ⊎ (last ≡ no_memory)) × WritesLast old before new after [] (reply_text last)
-
--- what a fault of the stream ends a run with
-abbrev pub EndsBy : WireFault → Option (List ℕ) → ℕ → Option (List ℕ) → ℕ → End → Type 0
-EndsBy (faults.BadRequest at) old before new after end = (end ≡ BadInput) × Tells (faults.BadRequest at) old before new after
-EndsBy (faults.TooLarge at len) old before new after end = (end ≡ BadInput) × Tells (faults.TooLarge at len) old before new after
-EndsBy (faults.Unsupported at) old before new after end = (end ≡ BadInput) × Tells (faults.Unsupported at) old before new after
-EndsBy faults.ReadFault old before new after end = (end ≡ ReadFault) × Keeps old new
-EndsBy faults.InputTooLong old before new after end = (end ≡ InputTooLong) × WritesLast old before new after [] (codes "input too long\n")
-EndsBy faults.NoMemory old before new after end = (end ≡ NoMemory) × Keeps old new
+-- what a run without settings ends with
+abbrev pub EndsWithout : NoSettings → Option (List ℕ) → ℕ → Option (List ℕ) → ℕ → End → Type 0
+EndsWithout why.ReadFault old before new after end = (end ≡ ReadFault) × Keeps old new
+EndsWithout why.NoMemory old before new after end = (end ≡ NoMemory) × Keeps old new
+EndsWithout (why.Refused number key) old before new after end =
+    ((end ≡ BadSettings) × WritesLast old before new after [] (refusal_line number key)) ⊎ ((end ≡ NoMemory) × Keeps old new)

@@ -1,9 +1,10 @@
-//! The program as one call: commands over an input, an output and a clock.
+//! The program as one call: commands over settings, an input, an output and a clock.
 #![tactic(auto)]
 
 mod command;
 mod exec;
 mod outcome;
+mod settings;
 #[cfg(test)]
 mod tests;
 

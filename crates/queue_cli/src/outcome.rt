@@ -7,7 +7,9 @@ pub enum End {
     BadInput,
     /// The words are no command.
     Usage,
-    /// The input failed.
+    /// The settings are refused.
+    BadSettings,
+    /// The settings' source or the input failed.
     ReadFault,
     /// The output failed, or took nothing.
     WriteFault,
@@ -29,6 +31,7 @@ impl End {
             End::Done => 0,
             End::BadInput => 1,
             End::Usage => 2,
+            End::BadSettings => 3,
             End::ReadFault => 4,
             End::WriteFault => 5,
             End::NoMemory => 7,

@@ -3,14 +3,25 @@ use sq_outside::{Failed, MemClock, MemSink, MemSource, Sink, Source, SureSource}
 use std::alloc::Global;
 use std::test::Fail;
 
+const SETTINGS: &[u8] = b"[[classes]]\nname = \"A\"\n";
+
 const FIRST: &[u8] =
     b"POST /jobs HTTP/1.1\r\nContent-Length: 31\r\n\r\n{\"job_class\":\"A\",\"job_id\":\"j1\"}";
+
+const OTHER: &[u8] =
+    b"POST /jobs HTTP/1.1\r\nContent-Length: 31\r\n\r\n{\"job_class\":\"Z\",\"job_id\":\"j1\"}";
 
 const CREATED: &[u8] =
     b"HTTP/1.1 201 Created\r\nContent-Type: application/json\r\nContent-Length: 24\r\n\r\n{\"id\":1,\"state\":\"ready\"}";
 
 const CREATED_NEXT: &[u8] =
     b"HTTP/1.1 201 Created\r\nContent-Type: application/json\r\nContent-Length: 24\r\n\r\n{\"id\":2,\"state\":\"ready\"}";
+
+const UNKNOWN: &[u8] =
+    b"HTTP/1.1 422 Unprocessable Entity\r\nContent-Type: application/json\r\nContent-Length: 47\r\n\r\n{\"class\":\"Z\",\"error\":\"unknown_class\",\"index\":0}";
+
+const MISSING: &[u8] =
+    b"HTTP/1.1 400 Bad Request\r\nContent-Type: application/json\r\nContent-Length: 50\r\n\r\n{\"error\":\"missing\",\"index\":0,\"member\":\"job_class\"}";
 
 const NOT_BUILT: &[u8] =
     b"HTTP/1.1 501 Not Implemented\r\nContent-Type: application/json\r\nContent-Length: 21\r\n\r\n{\"error\":\"not_built\"}";
@@ -57,31 +68,43 @@ fn words_of(alloc: Global, names: &[&str]) -> Result<Vec<String>, Fail> {
 }
 
 // The status and the output of a run.
+fn ran_with<S1: Source, S2: Source>(
+    alloc: Global,
+    words: &[&str],
+    config: &mut S1,
+    source: &mut S2,
+    sink: &mut MemSink,
+) -> Result<u8, Fail> {
+    let mut clock = MemClock::new(vec![in alloc; 5, 6, 7]?);
+    let words = words_of(alloc, words)?;
+    Ok(run(alloc, &words, config, source, sink, &mut clock))
+}
+
+// The same with the class A.
 fn ran<S: Source>(
     alloc: Global,
     words: &[&str],
     source: &mut S,
     sink: &mut MemSink,
 ) -> Result<u8, Fail> {
-    let mut clock = MemClock::new(vec![in alloc; 5, 6, 7]?);
-    let words = words_of(alloc, words)?;
-    Ok(run(alloc, &words, source, sink, &mut clock))
+    let mut config = SureSource::new(Vec::from_slice(alloc, SETTINGS)?);
+    ran_with(alloc, words, &mut config, source, sink)
 }
 
 #[test]
 fn requests_are_answered_in_turn(rt: HostRuntime) -> Result<(), Fail> {
     let alloc = rt.alloc();
-    let not_built = b"POST /jobs HTTP/1.1\r\nContent-Length: 2\r\n\r\n{}";
-    let three = joined(alloc, &[FIRST, b"GET / HTTP/1.1\r\n\r\n", FIRST])?;
-    let answers = joined(alloc, &[CREATED, NOT_BUILT, CREATED_NEXT])?;
+    let empty = b"POST /jobs HTTP/1.1\r\nContent-Length: 2\r\n\r\n{}";
+    let four = joined(alloc, &[FIRST, b"GET / HTTP/1.1\r\n\r\n", OTHER, FIRST])?;
+    let answers = joined(alloc, &[CREATED, NOT_BUILT, UNKNOWN, CREATED_NEXT])?;
     let cut = joined(alloc, &[FIRST, &FIRST[..60]])?;
     let told = joined(alloc, &[CREATED, CUT])?;
     for (stream, expected, status) in [
         (b"".as_slice(), b"".as_slice(), 0),
         (FIRST, CREATED, 0),
-        (not_built, NOT_BUILT, 0),
+        (empty, MISSING, 0),
         (b"GET / HTTP/1.1\r\n\r\n", NOT_BUILT, 0),
-        (&three, &answers, 0),
+        (&four, &answers, 0),
         (&cut, &told, 1),
     ] {
         let mut whole = MemSink::new(alloc, Vec::new(alloc));
@@ -110,12 +133,57 @@ fn other_words_are_refused(rt: HostRuntime) -> Result<(), Fail> {
 }
 
 #[test]
+fn settings_come_before_the_input(rt: HostRuntime) -> Result<(), Fail> {
+    let alloc = rt.alloc();
+    let mut long = Vec::new(alloc);
+    long.resize(1_048_577, b'\n')?;
+    let colour = b"[[classes]]\nname = \"A\"\ncolour = 1\n";
+    for (settings, expected, status) in [
+        (
+            colour.as_slice(),
+            b"settings 2 classes[0].colour\n".as_slice(),
+            3,
+        ),
+        (b"=", b"settings 1 document\n", 3),
+        (&long, b"settings 10 length\n", 3),
+        (&long[1..], b"", 0),
+    ] {
+        let mut sink = MemSink::new(alloc, Vec::new(alloc));
+        let mut config = SureSource::new(Vec::from_slice(alloc, settings)?);
+        let mut source = SureSource::new(Vec::new(alloc));
+        assert_eq!(rt;
+            ran_with(alloc, &["exec"], &mut config, &mut source, &mut sink)?,
+            status
+        );
+        assert_eq!(rt; sink.bytes(), expected);
+    }
+
+    // A failing output changes no status.
+    let mut sink = MemSink::new(alloc, vec![in alloc; 1]?);
+    let mut config = SureSource::new(Vec::from_slice(alloc, b"=")?);
+    let mut source = SureSource::new(Vec::from_slice(alloc, FIRST)?);
+    assert_eq!(rt;
+        ran_with(alloc, &["exec"], &mut config, &mut source, &mut sink)?,
+        3
+    );
+    Ok(())
+}
+
+#[test]
 fn streams_that_fail_end_the_run(rt: HostRuntime) -> Result<(), Fail> {
     let alloc = rt.alloc();
     for call in 1..=3 {
         let mut sink = MemSink::new(alloc, Vec::new(alloc));
         let mut source = byte_by_byte(alloc, FIRST, &[call])?;
         assert_eq!(rt; ran(alloc, &["exec"], &mut source, &mut sink)?, 4);
+        assert!(rt; sink.bytes().is_empty());
+
+        let mut config = byte_by_byte(alloc, SETTINGS, &[call])?;
+        let mut source = SureSource::new(Vec::from_slice(alloc, FIRST)?);
+        assert_eq!(rt;
+            ran_with(alloc, &["exec"], &mut config, &mut source, &mut sink)?,
+            4
+        );
         assert!(rt; sink.bytes().is_empty());
     }
 

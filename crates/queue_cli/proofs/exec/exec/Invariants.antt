@@ -6,7 +6,7 @@ use Rattle.queue_cli.proofs.exec.exec.Given as goal
 abbrev pub invariant-requests : goal.invariant-requests
 invariant-requests g l = record {
   within : l.carry.at ≤ MAX_INPUT;
-  serving : Serving (g.C.Clock.moments l.fn.clock) (g.S.Source.left l.fn.input) l.carry (g.S.Source.left l.input) l.jobs (g.C.Clock.moments l.clock) (g.K.Sink.written l.fn.output) (g.K.Sink.written l.output);
+  serving : Serving l.config (g.C.Clock.moments l.fn.clock) (g.S.Source.left l.fn.input) l.carry (g.S.Source.left l.input) l.jobs (g.C.Clock.moments l.clock) (g.K.Sink.written l.fn.output) (g.K.Sink.written l.output);
   read_count : g.S.Source.faults l.fn.input ≤ g.S.Source.faults l.input;
   write_count : g.K.Sink.faults l.fn.output ≤ g.K.Sink.faults l.output;
 }
