@@ -14,7 +14,7 @@ use Rattle.job_states.specs.declared.row.Mode.{Mode}
 use Rattle.job_states.specs.declared.row.Mode.TheVariants.{Alone, Shared}
 use Rattle.row_locks.specs.RowOrder.{row_cmp}
 use Rattle.row_locks.specs.Locks.{AreFree, Fits, IsFirstRefusal, IsFree, IsHeldAgainst, Lock}
-use Rattle.row_locks.specs.Holding.{IsFirstHeld, IsInOrder, IsLeastHolder, held_cmp, rank}
+use Rattle.row_locks.specs.Holders.{IsFirstHeld, IsInOrder, IsLeastHolder, held_cmp, rank}
 use Rattle.row_locks.proofs.Orders.{first_not_less, held_total, row_total}
 
 -- a mode that comes first fits with no more
@@ -65,7 +65,8 @@ first_refusal locks seat rows sorted index by asked moved up first asked_is =
     held_first : (row : Row) (later first : Mode) (holder : ℕ) → is_lt (nat_cmp (rank later) (rank first)) ≡ false → IsHeldAgainst locks seat row later holder → IsHeldAgainst locks seat row first holder
     held_first row later first holder behind held = (held.0, held.1, held.2, λ fits. held.3 (Fits-later held.0 first later behind fits))
 
--- where the search found none
-pub all_free : (locks : List Lock) (seat : ℕ) (rows sorted : List (Row × Mode)) → IsPermutation rows sorted → All (λ asked. IsFree locks seat asked.0 asked.1) sorted → AreFree locks seat rows
-all_free locks seat rows sorted moved free row mode asked =
-    All-contains (λ asked. IsFree locks seat asked.0 asked.1) sorted (row, mode) free (Contains-permutation rows sorted (row, mode) moved asked)
+-- where the search of the rows, in order, found none
+pub all_free : (locks now : List Lock) (seat : ℕ) (rows sorted searched : List (Row × Mode)) → locks ≡ now → searched ≡ sorted → IsPermutation rows sorted → All (λ asked. IsFree locks seat asked.0 asked.1) searched → AreFree now seat rows
+all_free locks now seat rows sorted searched same whole moved free row mode asked =
+    subst (λ (held : List Lock). IsFree held seat row mode) same
+    (All-contains (λ asked. IsFree locks seat asked.0 asked.1) searched (row, mode) free (subst (λ (those : List (Row × Mode)). Contains those (row, mode)) (sym whole) (Contains-permutation rows sorted (row, mode) moved asked)))

@@ -1,4 +1,4 @@
 pub mod Fault
-pub mod Holding
+pub mod Holders
 pub mod Locks
 pub mod RowOrder

@@ -1,5 +1,5 @@
 -- The rows that seats hold.
-use Rattle.std.specs.Prelude.{◌≡◌, ◌≢◌, ℕ, ◌≤◌, List, ◌++◌, map, Contains, IsPermutation}
+use Rattle.std.specs.Prelude.{◌≢◌, ℕ, ◌≤◌, List, map, Contains, IsSorted}
 use Rattle.std.specs.declared.cmp.Ordering.TheVariants.{Less}
 use Rattle.job_states.specs.declared.row.Row.{Row}
 use Rattle.job_states.specs.declared.row.Mode.{Mode}
@@ -61,6 +61,11 @@ pub record IsFirstRefusal (locks : List Lock) (seat : ℕ) (rows : List (Row × 
 abbrev pub locks_of : ℕ → List (Row × Mode) → List Lock
 locks_of seat rows = map (λ r. lock seat r.0 r.1) rows
 
--- the old locks, and behind them those of the rows in some order
-abbrev pub AddsRows : (old new : List Lock) → (seat : ℕ) → List (Row × Mode) → Type 0
-AddsRows old new seat rows = (added : List (Row × Mode)) × IsPermutation rows added × (new ≡ old ++ locks_of seat added)
+-- row by row
+abbrev pub AreInOrder : List Lock → Type 0
+AreInOrder locks = IsSorted (λ a b. row_cmp a.row b.row) locks
+
+-- what is true of the locks at each time
+pub record IsSound (locks : List Lock) : Type 0 where
+  pub in_order : AreInOrder locks
+  pub exclusive : AreExclusive locks

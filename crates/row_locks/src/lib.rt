@@ -3,7 +3,7 @@
 //! A contract sees [`Locks`] as a list of rows, each with its mode and the seat that holds it.
 #![tactic(auto)]
 
-mod holding;
+mod holders;
 mod locks;
 #[cfg(test)]
 mod tests;

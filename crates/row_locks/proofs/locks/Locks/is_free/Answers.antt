@@ -1,9 +1,9 @@
-use Rattle.std.proofs.Common.{subst, ap, ◌∙◌}
-use Rattle.row_locks.specs.Holding.{IsLeastHolder, locks_in}
-use Rattle.row_locks.proofs.Takings.{least_none_iff}
+use Rattle.std.proofs.Common.{subst}
+use Rattle.row_locks.specs.Holders.{IsLeastHolder}
+use Rattle.row_locks.proofs.Lookups.{least_none_iff}
 use Rattle.row_locks.proofs.locks.Locks.is_free.Goals as goal
 
 pub returns : goal.returns
 returns c =
     least_none_iff c.args.self.now c.args.seat c.args.row.now c.args.mode c.holder.result c.is_none.result c.is_none.ensures
-    (subst (λ locks. IsLeastHolder locks c.args.seat c.args.row.now c.args.mode c.holder.result) (ap locks_in c.deref.ensures.value ∙ c.self.view_is) c.holder.ensures)
+    (subst (λ locks. IsLeastHolder locks c.args.seat c.args.row.now c.args.mode c.holder.result) c.self.view_is c.holder.ensures)
