@@ -53,6 +53,7 @@ null => no JSON object
 [] => no JSON object
 {"job_class":"A","job_id":"1",} => no JSON object
 {"job_class":"\ud800","job_id":"1"} => no JSON object
+{"job_class":"A","job_id":"1","more":1e999} => no JSON object
 {} => job_class is missing
 {"job_id":"1"} => job_class is missing
 {"job_class":"A"} => job_id is missing
@@ -63,6 +64,7 @@ null => no JSON object
 {"job_class":"A","job_id":"1","job_class":"B"} => B 1 default 0 0
 {"job_class":"A","job_id":"1","job_class":""} => job_class is of the wrong kind
 {"job_class":"A","job_id":"1","job_class":7} => job_class is of the wrong kind
+{"job_class":"A","job_id":"1","job_class":{}} => job_class is of the wrong kind
 {"job_class":"A","job_id":"1","job_id":null} => job_id is of the wrong kind
 {"job_class":"A","job_id":"1","job_id":["1"]} => job_id is of the wrong kind
 {"job_class":"A","job_id":"1","job_id":{}} => job_id is of the wrong kind
@@ -79,6 +81,7 @@ null => no JSON object
 {"job_class":"A","job_id":"1","priority":1.0} => priority is of the wrong kind
 {"job_class":"A","job_id":"1","priority":1e3} => priority is of the wrong kind
 {"job_class":"A","job_id":"1","priority":"5"} => priority is of the wrong kind
+{"job_class":"A","job_id":"1","priority":[]} => priority is of the wrong kind
 {"job_class":"A","job_id":"1","priority":05} => no JSON object
 {"job_class":"A","job_id":"1","arguments":null} => arguments is of the wrong kind
 {"job_class":"A","job_id":"1","arguments":{}} => arguments is of the wrong kind
@@ -95,8 +98,10 @@ null => no JSON object
 {"job_class":"A","job_id":"1","executions":-1} => executions is of the wrong kind
 {"job_class":"A","job_id":"1","executions":0.0} => executions is of the wrong kind
 {"job_class":"A","job_id":"1","executions":null} => executions is of the wrong kind
+{"job_class":"A","job_id":"1","executions":"1"} => executions is of the wrong kind
 {"job_class":"A","job_id":"1","exception_executions":null} => exception_executions is of the wrong kind
 {"job_class":"A","job_id":"1","exception_executions":[]} => exception_executions is of the wrong kind
+{"job_class":"A","job_id":"1","exception_executions":"[A]"} => exception_executions is of the wrong kind
 {"job_class":"A","job_id":"1","exception_executions":{"[B]":2,"[A, C]":65535,"[B]":3}} => A 1 default 0 0 [A, C]=65535 [B]=3
 {"job_class":"A","job_id":"1","exception_executions":{"[A]":65536}} => exception_executions is of the wrong kind
 {"job_class":"A","job_id":"1","exception_executions":{"[A]":-1}} => exception_executions is of the wrong kind
@@ -112,6 +117,8 @@ null => no JSON object
 {"job_class":"A","job_id":"1","scheduled_at":"9998-12-31T23:59:59.999999999Z"} => A 1 default 0 0 @253370764799999999
 {"job_class":"A","job_id":"1","scheduled_at":"9999-01-01T00:00:00Z"} => scheduled_at is no moment
 {"job_class":"A","job_id":"1","scheduled_at":"2026-03-06"} => scheduled_at is no moment
+{"job_class":"A","job_id":"1","scheduled_at":"2026-03-06T00:00:00"} => scheduled_at is no moment
+{"job_class":"A","job_id":"1","scheduled_at":"2026-02-30T00:00:00Z"} => scheduled_at is no moment
 {"job_class":"A","job_id":"1","scheduled_at":"2026-03-06T24:00:00Z"} => scheduled_at is no moment
 {"job_class":"A","job_id":"1","scheduled_at":"2026-03-06T00:00:00.0000000001Z"} => scheduled_at is no moment
 {"job_class":"A","job_id":"1","scheduled_at":""} => scheduled_at is no moment
@@ -128,7 +135,7 @@ fn envelopes_are_read_by_the_table_and_kept_as_they_came(rt: HostRuntime) -> Res
         expect(&rt, rt.alloc(), body.as_bytes(), expected)?;
         rows = rows.saturating_add(1);
     }
-    assert_eq!(rt; rows, 71);
+    assert_eq!(rt; rows, 78);
     Ok(())
 }
 
