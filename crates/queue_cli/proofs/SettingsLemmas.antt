@@ -1,8 +1,7 @@
 -- Settings are judged by so much of their text as is read.
-use Rattle.std.proofs.Common.{◌≡◌, ◌<◌, ◌≤◌, ◌⊎◌, ◌↔◌, inl, inr, ℕ, List, [], ◌++◌, length, take, append-nil, Option, None, Some, IfSome, ap, sym, ◌∙◌, subst, codes, arith, length-take}
+use Rattle.std.proofs.Common.{◌≡◌, ◌<◌, ◌≤◌, ◌⊎◌, ◌↔◌, inl, inr, ℕ, List, [], ◌++◌, length, take, append-nil, Option, None, Some, IfSome, ap, sym, ◌∙◌, codes, arith, length-take}
 use Rattle.std.proofs.lemmas.List.{take_all}
 use Rattle.std.specs.Io.KnownBytes.{Consumes}
-use Rattle.std.proofs.KnownBytes.{Consumes-trans}
 use Rattle.queue_config.specs.Fault.{too_long}
 use Rattle.queue_config.specs.Settings.{config_of}
 use Rattle.queue_cli.specs.Settings.{IsFront}

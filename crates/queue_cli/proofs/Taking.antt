@@ -1,5 +1,5 @@
 -- How much was taken of the input.
-use Rattle.std.proofs.Common.{◌≡◌, ◌+◌, ◌≤◌, ℕ, List, length, length-append, Option, None, Some, Result, Ok, Err, ap, sym, subst, arith}
+use Rattle.std.proofs.Common.{◌≡◌, ◌+◌, ℕ, List, length, length-append, Option, None, Some, Err, ap, sym, subst, arith}
 use Rattle.std.specs.Io.KnownBytes.{Keeps}
 use Rattle.http_wire.specs.Ahead.{Ahead}
 use Rattle.http_wire.specs.Stream.{Known, rest_of, taken_of, IsWithinInput, IsPastInput}

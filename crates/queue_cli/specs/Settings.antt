@@ -4,7 +4,6 @@ use Rattle.std.specs.Fmt.{decimal}
 use Rattle.std.specs.Io.KnownBytes.{Consumes}
 use Rattle.sq_outside.specs.Fault.{Rose}
 use Rattle.queue_config.specs.declared.config.Config.{Config}
-use Rattle.queue_config.specs.declared.fault.SettingsFault.{SettingsFault}
 use Rattle.queue_config.specs.Settings.{config_of}
 use Rattle.queue_cli.specs.declared.settings.NoSettings.{NoSettings}
 use Rattle.queue_cli.specs.declared.settings.NoSettings.TheVariants.{ReadFault, Refused, NoMemory}

@@ -1,14 +1,12 @@
 //! The settings of a run, read from their source.
-ghost use Rattle.std.specs.Prelude.{◌≡◌, ◌<◌, ◌≤◌, length, IfOk, IfErr};
+ghost use Rattle.std.specs.Prelude.{IfOk, IfErr};
 ghost use Rattle.queue_cli.specs.Settings.{IsFront, HasSettings, HasCause};
 ghost use Rattle.queue_cli.specs.Streams.{Told};
-ghost use Rattle.sq_outside.specs.Fault.{Rose};
-ghost use Rattle.queue_cli.specs.declared.settings.NoSettings.TheVariants as why;
 
 use job_states::Text;
 use queue_config::{Config, SettingsFault};
 use sq_outside::{Failed, Source};
-use std::alloc::{AllocError, Global};
+use std::alloc::Global;
 
 // How much is read at a time.
 const CHUNK: usize = 8192;

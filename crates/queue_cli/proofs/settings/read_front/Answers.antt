@@ -1,5 +1,4 @@
-use Rattle.std.proofs.Common.{◌<◌, length, take, ap, ◌∙◌, arith, length-take}
-use Rattle.std.specs.Io.KnownBytes.{Consumes}
+use Rattle.std.proofs.Common.{◌<◌, length, take, ap, arith, length-take}
 use Rattle.queue_cli.proofs.SettingsLemmas.{at_end, front_at_end}
 use Rattle.queue_cli.proofs.settings.read_front.Goals as goal
 
