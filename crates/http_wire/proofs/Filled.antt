@@ -3,14 +3,9 @@ use Rattle.std.proofs.Common.{◌≡◌, ◌+◌, ◌-◌, ◌≤◌, ◌⊎◌,
 use Rattle.std.proofs.lemmas.List.{take-append-le, take-append-drop, drop-append-le, drop-drop, drop_all}
 use Rattle.std.proofs.Math.Seq.{take-append-add, take-append_seam, drop-append_seam}
 use Rattle.std.specs.Io.KnownBytes.{Consumes, prepend_known}
+use Rattle.std.proofs.KnownBytes.{Consumes-trans}
 use Rattle.http_wire.specs.Stream.{Known}
 use borrow.Rule.Slice.PartMut.{put_mid, post_of}
-
-pub Consumes-then : (old mid new : Option (List ℕ)) (a b : List ℕ) → Consumes old mid a → Consumes mid new b → Consumes old new (a ++ b)
-Consumes-then None mid new a b first second = tt
-Consumes-then (Some xs) None new a b first second = absurd first
-Consumes-then (Some xs) (Some ys) None a b first second = absurd second
-Consumes-then (Some xs) (Some ys) (Some zs) a b first second = first ∙ ap (λ w. a ++ w) second ∙ sym (append_assoc a b zs)
 
 take_filled : (a k n : ℕ) (xs ys : List ℕ) → a ≤ length xs → n ≤ length ys → take (a + n) (put_mid a k xs ys) ≡ take a xs ++ take n ys
 take_filled a k n xs ys within fits =
@@ -20,7 +15,7 @@ take_filled a k n xs ys within fits =
 pub filled_more : (old mid new : Option (List ℕ)) (a k n : ℕ) (xs ys : List ℕ) → a ≤ length xs → n ≤ length ys
     → Consumes old mid (take a xs) → Consumes mid new (take n ys) → Consumes old new (take (a + n) (put_mid a k xs ys))
 filled_more old mid new a k n xs ys within fits first second =
-    rw (take_filled a k n xs ys within fits) (Consumes-then old mid new (take a xs) (take n ys) first second)
+    rw (take_filled a k n xs ys within fits) (Consumes-trans old mid new (take a xs) (take n ys) first second)
 
 pub filled_within : (a k n : ℕ) (xs ys : List ℕ) → a ≤ length xs → n ≤ length ys → a + n ≤ length (put_mid a k xs ys)
 filled_within a k n xs ys within fits = omega (arith, length-append (take a xs) (ys ++ post_of a k xs), length-append ys (post_of a k xs), length-take a xs)

@@ -3,6 +3,7 @@ pub mod Digits
 pub mod Fields
 pub mod Filled
 pub mod HeadLemmas
+pub mod Reasons
 pub mod Rest
 pub mod Taken
 pub mod Token

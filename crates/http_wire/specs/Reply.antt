@@ -10,9 +10,11 @@ use Rattle.http_wire.specs.declared.reply.BodyKind.{BodyKind}
 use Rattle.http_wire.specs.declared.reply.BodyKind.TheVariants.{Json, Raw}
 
 -- the statuses of replies
+abbrev pub reply_statuses : List ℕ
+reply_statuses = 200 ∷ 201 ∷ 400 ∷ 404 ∷ 405 ∷ 409 ∷ 413 ∷ 422 ∷ 500 ∷ 501 ∷ 503 ∷ 507 ∷ []
+
 abbrev pub is_reply_status : ℕ → Bool
-is_reply_status status =
-    list_any (λ n. n == status) (200 ∷ 201 ∷ 400 ∷ 404 ∷ 405 ∷ 409 ∷ 413 ∷ 422 ∷ 500 ∷ 501 ∷ 503 ∷ 507 ∷ [])
+is_reply_status status = list_any (λ n. n == status) reply_statuses
 
 abbrev pub media_type : BodyKind → List ℕ
 media_type Json = codes "application/json"

@@ -5,6 +5,7 @@ ghost use Rattle.sq_outside.specs.Fault.{Rose};
 ghost use Rattle.http_wire.specs.Reply.{head_text, reply_text, is_reply_status, AppendsFront};
 
 use arrayvec::ArrayString;
+use http::StatusCode;
 use itoa::Buffer;
 use job_states::Bytes;
 use sq_outside::Sink;
@@ -105,27 +106,16 @@ fn head_of(reply: &Reply) -> ArrayString<128>
     head
 }
 
-// The phrase that RFC 9110 gives to a status.
+// The phrase that the crate `http` gives to a status.
 fn reason(status: u16) -> &'static str
     requires { IsTrue (is_reply_status status) }
     ensures phrase { result.now ≡ unwrap_or (reason_phrase status) [] }
     ensures short { length result.now ≤ 21 }
 {
-    match status {
-        200 => "OK",
-        201 => "Created",
-        400 => "Bad Request",
-        404 => "Not Found",
-        405 => "Method Not Allowed",
-        409 => "Conflict",
-        413 => "Payload Too Large",
-        422 => "Unprocessable Entity",
-        500 => "Internal Server Error",
-        501 => "Not Implemented",
-        503 => "Service Unavailable",
-        507 => "Insufficient Storage",
-        _ => unreachable!(),
-    }
+    let Ok(status) = StatusCode::from_u16(status) else {
+        unreachable!()
+    };
+    status.canonical_reason().unwrap_or("")
 }
 
 /// Writes all of a piece.
