@@ -35,14 +35,10 @@ row_of id job = record {
   limited = None;
 }
 
--- a job whose moment is above this one is scheduled, any other is ready
-abbrev pub state_at : Option ℕ → ℕ → State
-state_at None now = Ready None
-state_at (Some at) now = if nat_lt now at then Scheduled at else Ready None
-
-abbrev pub outcome_at : Option ℕ → ℕ → Outcome
-outcome_at None now = outcome.Ready
-outcome_at (Some at) now = if nat_lt now at then outcome.Scheduled else outcome.Ready
+-- where a new job stands, and how that is told: one whose moment is above this one is scheduled, any other is ready
+abbrev pub place_at : Option ℕ → ℕ → State × Outcome
+place_at None now = (Ready None, outcome.Ready)
+place_at (Some at) now = if nat_lt now at then (Scheduled at, outcome.Scheduled) else (Ready None, outcome.Ready)
 
 -- what an enqueue comes to: the reply, and the jobs after it
 pub record Enqueued : Type 0 where
@@ -56,8 +52,8 @@ refused job old = record { reply = unknown_class job.class; jobs = old }
 -- the job comes last, with the next number
 abbrev pub appended : NewJob → List (JobRow × State) → ℕ → Enqueued
 appended job old now = record {
-  reply = created (length old + 1) (outcome_at job.at now);
-  jobs = old ++ (row_of (length old + 1) job, state_at job.at now) ∷ [];
+  reply = created (length old + 1) (place_at job.at now).1;
+  jobs = old ++ (row_of (length old + 1) job, (place_at job.at now).0) ∷ [];
 }
 
 abbrev pub enqueued_as : Option Class → NewJob → List (JobRow × State) → ℕ → Enqueued

@@ -75,9 +75,9 @@ fn append(alloc: Global, jobs: &mut JobList, now: Moment, job: NewJob) -> Result
     ensures stays { OnErr result (jobs.new ≡ jobs.old) }
 {
     let id = jobs.jobs.len() as JobId + 1;
-    let reply = created(alloc, id, outcome_at(job.at, now))?;
+    let (state, outcome) = place_at(job.at, now);
+    let reply = created(alloc, id, outcome)?;
     jobs.jobs.reserve(1)?;
-    let state = state_at(job.at, now);
     match jobs.jobs.push((row_of(id, job), state)) {
         Ok(()) => Ok(reply),
         Err(_) => unreachable!(),
@@ -100,20 +100,12 @@ fn row_of(id: JobId, job: NewJob) -> JobRow
     }
 }
 
-fn state_at(at: Option<Moment>, now: Moment) -> State
-    ensures { result ≡ spec.state_at at now }
+// Where the job stands at this moment, and how that is told.
+fn place_at(at: Option<Moment>, now: Moment) -> (State, Outcome)
+    ensures { result ≡ spec.place_at at now }
 {
     match at {
-        Some(at) if now < at => State::Scheduled(at),
-        _ => State::Ready(None),
-    }
-}
-
-fn outcome_at(at: Option<Moment>, now: Moment) -> Outcome
-    ensures { result ≡ spec.outcome_at at now }
-{
-    match at {
-        Some(at) if now < at => Outcome::Scheduled,
-        _ => Outcome::Ready,
+        Some(at) if now < at => (State::Scheduled(at), Outcome::Scheduled),
+        _ => (State::Ready(None), Outcome::Ready),
     }
 }
