@@ -78,11 +78,7 @@ before_accepted file file' old new ends.BadSettings before text settings left ac
     (cc)
 before_accepted file file' old new ends.ReadFault before text settings left accepted reads = absurd (reads before.0)
 before_accepted file file' old new ends.NoMemory before text settings left accepted reads = inr refl
-before_accepted file file' old new ends.Done before text settings left accepted reads = absurd before
-before_accepted file file' old new ends.BadInput before text settings left accepted reads = absurd before
-before_accepted file file' old new ends.Usage before text settings left accepted reads = absurd before
-before_accepted file file' old new ends.WriteFault before text settings left accepted reads = absurd before
-before_accepted file file' old new ends.InputTooLong before text settings left accepted reads = absurd before
+before_accepted file file' old new _ before text settings left accepted reads = absurd before
 
 pub complete_run : One → GoesOn → Taken → (moments : Option (List ℕ)) (file file' : Told) (old new : Streams) (end : End) → HasOutcome exec_words moments file file' old new end
     → (text : List ℕ) (settings : Config) → file.left ≡ Some text → config_of text ≡ Ok settings
@@ -99,11 +95,7 @@ before_refused : (file file' : Told) (old new : Streams) (end : End) → EndsBef
 before_refused file file' old new ends.BadSettings before reads = inl refl
 before_refused file file' old new ends.ReadFault before reads = absurd (reads before.0)
 before_refused file file' old new ends.NoMemory before reads = inr refl
-before_refused file file' old new ends.Done before reads = absurd before
-before_refused file file' old new ends.BadInput before reads = absurd before
-before_refused file file' old new ends.Usage before reads = absurd before
-before_refused file file' old new ends.WriteFault before reads = absurd before
-before_refused file file' old new ends.InputTooLong before reads = absurd before
+before_refused file file' old new _ before reads = absurd before
 
 pub refused_run : (moments : Option (List ℕ)) (file file' : Told) (old new : Streams) (end : End) → HasOutcome exec_words moments file file' old new end
     → (text : List ℕ) (number : ℕ) (key : List ℕ) → file.left ≡ Some text → config_of text ≡ Err (fault.Refused number key) → (Rose file.faults file'.faults → ⊥) → (status_of end ≡ 3) ⊎ (status_of end ≡ 7)

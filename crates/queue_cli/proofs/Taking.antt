@@ -1,6 +1,5 @@
 -- How much was taken of the input.
-use Rattle.std.proofs.Common.{◌≡◌, ◌+◌, ℕ, List, length, length-append, Option, None, Some, Err, ap, sym, subst, arith}
-use Rattle.std.specs.Io.KnownBytes.{Keeps}
+use Rattle.std.proofs.Common.{◌≡◌, ◌+◌, ℕ, List, length, length-append, Option, None, Some, Err, sym, subst, arith}
 use Rattle.http_wire.specs.Ahead.{Ahead}
 use Rattle.http_wire.specs.Stream.{Known, rest_of, taken_of, IsWithinInput, IsPastInput}
 use Rattle.http_wire.specs.Stream as wire
@@ -9,29 +8,22 @@ use Rattle.http_wire.specs.declared.request.WireFault.{WireFault}
 use Rattle.http_wire.specs.declared.request.WireFault.TheVariants as faults
 use Rattle.queue_cli.specs.Service.{Spelled}
 use Rattle.queue_cli.specs.declared.outcome.End.{End}
-use Rattle.queue_cli.specs.declared.outcome.End.TheVariants as ends
-use Rattle.queue_cli.specs.Exec.{TakesWithin, HasTaken, EndsBy}
+use Rattle.queue_cli.specs.Exec.{HasTaken, EndsBy}
 
 -- from a place in the input on, so much was taken
 pub taken_within : (left : Option (List ℕ)) (ahead : Ahead) (left' left'' : Option (List ℕ)) (requests : List Request) → Known left (rest_of ahead left') (λ bytes rest. Spelled bytes requests rest × (ahead.at + length rest ≡ length bytes))
-    → IsWithinInput (taken_of ahead) left' left'' → TakesWithin left left''
+    → IsWithinInput (taken_of ahead) left' left'' → IsWithinInput 0 left left''
 taken_within None ahead left' left'' requests placed within = tt
 taken_within (Some bytes) ahead None left'' requests placed within = absurd placed
 taken_within (Some bytes) ahead (Some rest) None requests placed within = absurd within
 taken_within (Some bytes) ahead (Some rest) (Some rest') requests placed within = omega (arith, placed.1, within, length-append ahead.bytes rest)
 
 taken_past : (left : Option (List ℕ)) (ahead : Ahead) (left' left'' : Option (List ℕ)) (requests : List Request) → Known left (rest_of ahead left') (λ bytes rest. Spelled bytes requests rest × (ahead.at + length rest ≡ length bytes))
-    → IsPastInput (taken_of ahead) left' left'' → HasTaken left left'' ends.InputTooLong
+    → IsPastInput (taken_of ahead) left' left'' → IsPastInput 0 left left''
 taken_past None ahead left' left'' requests placed past = tt
 taken_past (Some bytes) ahead None left'' requests placed past = absurd placed
 taken_past (Some bytes) ahead (Some rest) None requests placed past = absurd past
 taken_past (Some bytes) ahead (Some rest) (Some rest') requests placed past = omega (arith, placed.1, past, length-append ahead.bytes rest)
-
--- nothing was taken
-pub taken_nothing : (left left' : Option (List ℕ)) → Keeps left left' → TakesWithin left left'
-taken_nothing None left' kept = tt
-taken_nothing (Some bytes) None kept = absurd kept
-taken_nothing (Some bytes) (Some rest) kept = omega (arith, ap length kept)
 
 -- a fault of the stream ends a run with what was taken
 pub fault_taken : (left : Option (List ℕ)) (ahead : Ahead) (left' left'' : Option (List ℕ)) (requests : List Request) → Known left (rest_of ahead left') (λ bytes rest. Spelled bytes requests rest × (ahead.at + length rest ≡ length bytes))

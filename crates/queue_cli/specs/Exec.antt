@@ -11,7 +11,7 @@ use Rattle.http_wire.specs.declared.request.WireFault.{WireFault}
 use Rattle.http_wire.specs.declared.request.WireFault.TheVariants as faults
 use Rattle.http_wire.specs.declared.reply.Reply.{Reply}
 use Rattle.http_wire.specs.Reply.{reply_text, AppendsFront}
-use Rattle.http_wire.specs.Stream.{Known, IsEnd, IsRefused, fault_at}
+use Rattle.http_wire.specs.Stream.{Known, IsEnd, IsRefused, IsWithinInput, IsPastInput, fault_at}
 use Rattle.queue_config.specs.declared.config.Config.{Config}
 use Rattle.queue_http.specs.Replies.{refusal, no_memory}
 use Rattle.queue_cli.specs.declared.outcome.End.{End}
@@ -89,20 +89,10 @@ HasServed config moments old new InputTooLong = IsTooLong config moments old new
 HasServed config moments old new Usage = ⊥
 HasServed config moments old new BadSettings = ⊥
 
--- at most 2^30 bytes of the input are taken
-abbrev pub TakesWithin : Option (List ℕ) → Option (List ℕ) → Type 0
-TakesWithin left left' = Known left left' (λ bytes rest. length bytes ≤ MAX_INPUT + length rest)
-
--- how many bytes of the input are taken: one more tells that it is too long
+-- how many bytes of the input are taken: one more than it may have tells that it is too long
 abbrev pub HasTaken : Option (List ℕ) → Option (List ℕ) → End → Type 0
-HasTaken left left' Done = TakesWithin left left'
-HasTaken left left' BadInput = TakesWithin left left'
-HasTaken left left' Usage = TakesWithin left left'
-HasTaken left left' BadSettings = TakesWithin left left'
-HasTaken left left' ReadFault = TakesWithin left left'
-HasTaken left left' WriteFault = TakesWithin left left'
-HasTaken left left' NoMemory = TakesWithin left left'
-HasTaken left left' InputTooLong = Known left left' (λ bytes rest. length bytes ≡ MAX_INPUT + 1 + length rest)
+HasTaken left left' InputTooLong = IsPastInput 0 left left'
+HasTaken left left' _ = IsWithinInput 0 left left'
 
 -- the refusal's reply is the last that is written
 abbrev pub Tells : WireFault → Option (List ℕ) → ℕ → Option (List ℕ) → ℕ → Type 0

@@ -42,11 +42,7 @@ abbrev pub EndsBefore : Told → Told → Streams → Streams → End → Type 0
 EndsBefore file file' old new BadSettings = IsRefusal file file' old new
 EndsBefore file file' old new ReadFault = Rose file.faults file'.faults × SaysNothing old new
 EndsBefore file file' old new NoMemory = SaysNothing old new
-EndsBefore file file' old new Done = ⊥
-EndsBefore file file' old new BadInput = ⊥
-EndsBefore file file' old new Usage = ⊥
-EndsBefore file file' old new WriteFault = ⊥
-EndsBefore file file' old new InputTooLong = ⊥
+EndsBefore file file' old new _ = ⊥
 
 -- how a run ends that has them
 pub record EndsAfter (moments : Option (List ℕ)) (file file' : Told) (old new : Streams) (end : End) : Type 0 where
