@@ -1,7 +1,7 @@
 use Rattle.std.specs.Prelude.{◌≡◌, ◌<◌, ℕ, List, [], length}
 use Rattle.job_states.specs.Length.{IsName}
-use Rattle.job_states.specs.declared.text.NameFault.{NameFault}
-use Rattle.job_states.specs.declared.text.NameFault.TheVariants.{Empty, TooLong, NoMemory}
+use Rattle.job_states.specs.declared.name.NameFault.{NameFault}
+use Rattle.job_states.specs.declared.name.NameFault.TheVariants.{Empty, TooLong, NoMemory}
 
 -- why the text of these bytes isn't read as a name
 abbrev pub IsNameFault : List ℕ → NameFault → Type 0

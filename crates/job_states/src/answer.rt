@@ -2,8 +2,8 @@ ghost use Rattle.std.proofs.Common.{rules};
 
 use crate::{Copied, JobId, List, Moment, Name, Pid, Row, Stage, Text};
 
-/// A job's state as an answer tells it.
-#[derive(Clone, Copy, Debug, PartialEq, Eq)]
+/// A job's state as an answer reports it.
+#[derive(Clone, Copy)]
 pub enum Outcome {
     Ready,
     Scheduled,
@@ -14,7 +14,7 @@ pub enum Outcome {
 }
 
 /// What became of a job that was asked for; a discarded one has no number.
-#[derive(Clone, Copy, Debug, PartialEq, Eq)]
+#[derive(Clone, Copy)]
 pub struct Made {
     pub id: Option<JobId>,
     pub state: Outcome,
@@ -24,8 +24,8 @@ impl Copied for Made {
     ghost exact = { Prim.search rules };
 }
 
-/// A claimed job as its worker is told of it.
-#[derive(Clone, Debug, PartialEq, Eq, Drop)]
+/// A claimed job as its worker gets it.
+#[derive(Clone, Drop)]
 pub struct Polled {
     pub active_id: Name,
     pub class: Name,
@@ -41,7 +41,7 @@ impl Copied for Polled {
 }
 
 /// The answer to a command that was accepted.
-#[derive(Clone, Debug, PartialEq, Eq, Drop)]
+#[derive(Clone, Drop)]
 pub enum Answer {
     /// To an enqueue, and to a task that is run by hand.
     Enqueued(Made),
@@ -105,7 +105,7 @@ impl Copied for Answer {
 }
 
 /// Why a command was refused.
-#[derive(Clone, Debug, PartialEq, Eq, Drop)]
+#[derive(Clone, Drop)]
 pub enum Refused {
     /// The class of the job at this place of the command isn't in the settings.
     UnknownClass { index: u32, class: Name },

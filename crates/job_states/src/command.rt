@@ -3,7 +3,7 @@ ghost use Rattle.std.proofs.Common.{rules};
 use crate::{Bytes, Copied, Counted, List, Moment, Name, Stage, Text};
 
 /// A job that is asked for.
-#[derive(Clone, Debug, PartialEq, Eq, Drop)]
+#[derive(Clone, Drop)]
 pub struct NewJob {
     pub class: Name,
     pub queue: Name,
@@ -23,7 +23,7 @@ impl Copied for NewJob {
 }
 
 /// An argument of a job, as far as a concurrency key can be made of it.
-#[derive(Clone, Debug, PartialEq, Eq, Drop)]
+#[derive(Clone, Drop)]
 pub enum Arg {
     Null,
     Text(Text),
@@ -37,7 +37,7 @@ impl Copied for Arg {
 }
 
 /// The kind of a process.
-#[derive(Clone, Copy, Debug, PartialEq, Eq)]
+#[derive(Clone, Copy)]
 pub enum Kind {
     Worker,
     Dispatcher,
@@ -46,7 +46,7 @@ pub enum Kind {
 }
 
 /// What callers, workers, dispatchers and maintenance ask for.
-#[derive(Clone, Debug, PartialEq, Eq, Drop)]
+#[derive(Clone, Drop)]
 pub enum Command {
     Enqueue {
         job: NewJob,

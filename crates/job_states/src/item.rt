@@ -3,7 +3,7 @@ ghost use Rattle.std.proofs.Common.{rules};
 use crate::{Copied, JobId, JobRow, Kind, Moment, Name, Pid, State, Text};
 
 /// One item of a snapshot of the store.
-#[derive(Clone, Debug, PartialEq, Eq, Drop)]
+#[derive(Clone, Drop)]
 pub enum Item {
     Job {
         row: JobRow,

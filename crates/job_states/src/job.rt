@@ -9,7 +9,7 @@ pub type JobId = u64;
 pub type Pid = u64;
 
 /// A job's row. What a job is stays in it; where the job stands is its [`State`].
-#[derive(Clone, Debug, PartialEq, Eq, Drop)]
+#[derive(Clone, Drop)]
 pub struct JobRow {
     pub id: JobId,
     pub class: Name,
@@ -33,7 +33,7 @@ impl Copied for JobRow {
 }
 
 /// How often the errors of one rule came.
-#[derive(Clone, Debug, PartialEq, Eq, Drop)]
+#[derive(Clone, Drop)]
 pub struct Counted {
     /// The rule's errors as a text of 1 to 1024 bytes: `[A, B]`.
     pub list: Text,
@@ -46,7 +46,7 @@ impl Copied for Counted {
 }
 
 /// A concurrency limit: at most `to` jobs of one key at a time.
-#[derive(Clone, Debug, PartialEq, Eq, Drop)]
+#[derive(Clone, Drop)]
 pub struct Limited {
     /// `group/text`, at most 257 bytes.
     pub key: Text,
@@ -63,7 +63,7 @@ impl Copied for Limited {
 }
 
 /// Where a job stands. The `Option<u64>` is the generation of the permit that the job holds.
-#[derive(Clone, Debug, PartialEq, Eq, Drop)]
+#[derive(Clone, Drop)]
 pub enum State {
     /// It becomes due at this moment.
     Scheduled(Moment),
@@ -85,8 +85,37 @@ impl Copied for State {
     ghost exact = { Prim.search rules };
 }
 
+impl State {
+    ghost use Rattle.std.specs.Prelude.{◌≡◌};
+    ghost use Rattle.job_states.specs.States.{stage_of, permit_of};
+
+    /// The state without its values.
+    pub fn stage(&self) -> Stage
+        ensures { result ≡ stage_of self.now }
+    {
+        match self {
+            State::Scheduled(_) => Stage::Scheduled,
+            State::Ready(_) => Stage::Ready,
+            State::Blocked(_) => Stage::Blocked,
+            State::Claimed(_, _) => Stage::Claimed,
+            State::Failed { .. } => Stage::Failed,
+            State::Finished(_) => Stage::Finished,
+        }
+    }
+
+    /// The generation of the permit that a job in this state holds.
+    pub fn permit(&self) -> Option<u64>
+        ensures { result ≡ permit_of self.now }
+    {
+        match self {
+            State::Ready(permit) | State::Claimed(_, permit) => *permit,
+            _ => None,
+        }
+    }
+}
+
 /// The states without their values.
-#[derive(Clone, Copy, Debug, PartialEq, Eq)]
+#[derive(Clone, Copy, Debug)]
 pub enum Stage {
     Scheduled,
     Ready,

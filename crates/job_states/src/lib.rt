@@ -5,12 +5,15 @@
 #![tactic(auto)]
 
 mod answer;
+mod bytes;
 mod command;
 mod copied;
 mod item;
 mod job;
 mod list;
 mod moment;
+mod name;
+mod no_memory;
 mod row;
 #[cfg(test)]
 mod tests;
@@ -18,12 +21,15 @@ mod text;
 mod transition;
 
 pub use answer::{Answer, Made, Outcome, Polled, Refused};
+pub use bytes::Bytes;
 pub use command::{Arg, Command, Kind, NewJob};
-pub use copied::{Copied, NoMemory};
+pub use copied::Copied;
 pub use item::Item;
 pub use job::{Counted, JobId, JobRow, Limited, Pid, Stage, State};
 pub use list::List;
 pub use moment::{LAST, Moment, later};
-pub use row::{Mode, Row};
-pub use text::{Bytes, Name, NameFault, Text};
-pub use transition::{Counters, Put, Transaction, Transition};
+pub use name::{Name, NameFault};
+pub use no_memory::NoMemory;
+pub use row::{Mode, Row, compare_rows};
+pub use text::Text;
+pub use transition::{Counters, Put, Transaction, Transition, WrongState};

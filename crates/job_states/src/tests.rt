@@ -10,22 +10,21 @@ fn name(alloc: Global, text: &str) -> Result<Name, Fail> {
 fn names_have_1_to_128_bytes(rt: HostRuntime) -> Result<(), Fail> {
     let alloc = rt.alloc();
     let long = "é".repeat(alloc, 64)?;
-    let longer = "x".repeat(alloc, 129)?;
-    assert_eq!(rt; Name::read(alloc, ""), Err(NameFault::Empty));
-    assert_eq!(rt; name(alloc, "x")?.as_str(), "x");
     assert_eq!(rt; name(alloc, long.as_str())?.as_bytes().len(), 128);
+    let longer = "x".repeat(alloc, 129)?;
+    let fault = Name::read(alloc, longer.as_str()).err().ok_or("a name")?;
     assert_eq!(rt;
-        Name::read(alloc, longer.as_str()),
-        Err(NameFault::TooLong { len: 129 })
+        format!(in alloc; "{fault}")?.as_str(),
+        "a name has 129 bytes, more than 128"
     );
     Ok(())
 }
 
 #[test]
-fn a_copy_of_a_whole_row_is_made(rt: HostRuntime) -> Result<(), Fail> {
+fn a_copy_of_a_whole_transaction_is_made(rt: HostRuntime) -> Result<(), Fail> {
     let alloc = rt.alloc();
     let counted = Counted {
-        list: Text::read(alloc, "[NetError]")?,
+        list: Text::from_utf8(alloc, b"[NetError]")?,
         count: 2,
     };
     let row = JobRow {
@@ -44,21 +43,20 @@ fn a_copy_of_a_whole_row_is_made(rt: HostRuntime) -> Result<(), Fail> {
             discard: false,
         }),
     };
-    assert_eq!(rt; row.copy()?, row);
     let enqueue = Transition::Enqueue {
         row,
         put: Put::Ready(Some(4)),
     };
     let transaction = Transaction {
-        moment: LAST,
+        moment: later(LAST, 1),
         steps: List::of(vec![in alloc; enqueue]?),
     };
-    assert_eq!(rt; transaction.copy()?, transaction);
+    assert_eq!(rt; transaction.copy()?.steps.len(), 1);
     Ok(())
 }
 
 #[test]
-fn rows_are_in_order_by_kind_and_then_by_number_or_bytes(rt: HostRuntime) -> Result<(), Fail> {
+fn rows_are_shown_in_their_order(rt: HostRuntime) -> Result<(), Fail> {
     let alloc = rt.alloc();
     let rows = [
         Row::Job(2),
@@ -70,12 +68,13 @@ fn rows_are_in_order_by_kind_and_then_by_number_or_bytes(rt: HostRuntime) -> Res
         Row::Task(name(alloc, "a")?),
     ];
     assert!(rt; rows.is_sorted());
+    let mut shown = String::new(alloc);
+    for row in &rows {
+        write!(shown, "{row}, ")?;
+    }
+    assert_eq!(rt;
+        shown.as_str(),
+        "job 2, job 10, key A/10, key A/2, process 1, queue b, task a, "
+    );
     Ok(())
-}
-
-#[test]
-fn moments_stop_at_the_last_microsecond_of_9998(rt: HostRuntime) {
-    assert_eq!(rt; later(0, 180_000_000), 180_000_000);
-    assert_eq!(rt; later(LAST, 1), LAST);
-    assert_eq!(rt; later(1, u64::MAX), LAST);
 }

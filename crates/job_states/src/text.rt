@@ -1,8 +1,9 @@
-use crate::{Copied, List, NoMemory};
+use crate::{Copied, NoMemory};
 use std::alloc::{AllocError, Global};
 use std::cmp::Ordering;
 use std::hash::{Hash, Hasher};
 use std::marker::Model;
+use std::{fmt, str};
 
 /// A text. A contract sees it as its bytes, which are UTF-8.
 #[derive(Debug, Drop)]
@@ -19,7 +20,7 @@ impl Model for Text {
 }
 
 impl Text {
-    ghost use Rattle.std.specs.Prelude.{◌≡◌, ◌==◌, length, string_bytes, IfOk};
+    ghost use Rattle.std.specs.Prelude.{◌≡◌, ◌==◌, length, string_bytes, IfOk, IsUtf8};
 
     /// The text with the same bytes.
     pub fn read(alloc: Global, text: &str) -> Result<Self, NoMemory>
@@ -37,9 +38,18 @@ impl Text {
         Text { text }
     }
 
+    /// The text of bytes that are UTF-8.
+    pub fn from_utf8(alloc: Global, bytes: &[u8]) -> Result<Self, NoMemory>
+        requires { IsUtf8 bytes.now }
+        ensures { IfOk result (λ t. t ≡ bytes.now) }
+    {
+        Text::read(alloc, str::from_utf8(bytes).unwrap())
+    }
+
     /// The text.
     pub fn as_str(&self) -> &str
-        ensures { result.now ≡ self.now }
+        ensures same { result.now ≡ self.now }
+        ensures utf8 { IsUtf8 self.now }
     {
         self.text.as_str()
     }
@@ -150,154 +160,8 @@ impl Hash for Text {
     }
 }
 
-/// A text of 1 to 128 bytes: the name of a class, a queue, a task, an error or a process, or a job's own id.
-#[derive(Clone, Debug, PartialEq, Eq, PartialOrd, Ord, Hash, Drop)]
-pub struct Name(Text);
-
-impl Model for Name {
-    ghost use Rattle.std.specs.Prelude.{ℕ, List};
-    ghost use Rattle.job_states.specs.Length.{IsName};
-
-    ghost Value = { List ℕ };
-
-    ghost view = { λ n. n.0 };
-
-    ghost invariant = { λ n. IsName n.0 };
-
-    ghost inverse = { λ bytes. record { 0 = bytes } };
-}
-
-/// Why a text is no name.
-#[derive(Clone, Copy, Debug, PartialEq, Eq)]
-pub enum NameFault {
-    /// It is empty.
-    Empty,
-    /// It has more than 128 bytes: this many.
-    TooLong { len: usize },
-    /// There was no memory for it.
-    NoMemory,
-}
-
-impl From<NoMemory> for NameFault {
-    ghost use Rattle.std.specs.Prelude.{◌≡◌};
-    ghost use Rattle.job_states.specs.declared.text.NameFault.TheVariants as fault;
-
-    ghost from_gives = { λ _ e. e ≡ fault.NoMemory };
-
-    fn from(_: NoMemory) -> Self {
-        NameFault::NoMemory
+impl fmt::Display for Text {
+    fn fmt<W: fmt::Write>(&self, f: &mut fmt::Formatter<W>) -> fmt::Result {
+        f.write_str(self.as_str())
     }
-}
-
-impl Name {
-    ghost use Rattle.std.specs.Prelude.{◌≡◌, IfOk, IfErr};
-    ghost use Rattle.job_states.specs.Length.{IsName};
-    ghost use Rattle.job_states.specs.Name.{IsNameFault};
-
-    /// The greatest length in bytes.
-    pub const MAX_LEN: usize = 128;
-
-    /// The name with the same bytes.
-    pub fn read(alloc: Global, text: &str) -> Result<Self, NameFault>
-        ensures same { IfOk result (λ name. name ≡ text.now) }
-        ensures name { IfOk result IsName }
-        ensures fault { IfErr result (IsNameFault text.now) }
-    {
-        if text.is_empty() {
-            return Err(NameFault::Empty);
-        }
-        if text.len() > Name::MAX_LEN {
-            return Err(NameFault::TooLong { len: text.len() });
-        }
-        Ok(Name(Text::read(alloc, text)?))
-    }
-
-    /// The name as a text.
-    pub fn as_text(&self) -> &Text
-        ensures same { result.now ≡ self.now }
-        ensures name { IsName self.now }
-    {
-        &self.0
-    }
-
-    /// The name as a `str`.
-    pub fn as_str(&self) -> &str
-        ensures same { result.now ≡ self.now }
-        ensures name { IsName self.now }
-    {
-        self.0.as_str()
-    }
-
-    /// The name's bytes.
-    pub fn as_bytes(&self) -> &[u8]
-        ensures same { result.now ≡ self.now }
-        ensures name { IsName self.now }
-    {
-        self.0.as_bytes()
-    }
-}
-
-impl Copied for Name {
-    ghost use Rattle.std.proofs.Common.{rules};
-
-    ghost exact = { Prim.search rules };
-}
-
-/// Bytes of any kind. A contract sees them as a list.
-#[derive(Clone, Debug, PartialEq, Eq, Drop)]
-pub struct Bytes(List<u8>);
-
-impl Model for Bytes {
-    ghost use Rattle.std.specs.Prelude.{ℕ, List};
-
-    ghost Value = { List ℕ };
-
-    ghost view = { λ b. b.0 };
-
-    ghost inverse = { λ bytes. record { 0 = bytes } };
-}
-
-impl Bytes {
-    ghost use Rattle.std.specs.Prelude.{◌≡◌, ◌==◌, length, IfOk};
-
-    /// The same bytes.
-    pub fn read(alloc: Global, bytes: &[u8]) -> Result<Self, NoMemory>
-        ensures { IfOk result (λ same. same ≡ bytes.now) }
-    {
-        Ok(Bytes::of(Vec::from_slice(alloc, bytes)?))
-    }
-
-    /// The bytes of a vector. It takes no memory.
-    pub fn of(bytes: Vec<u8>) -> Self
-        ensures { result ≡ bytes.items }
-    {
-        Bytes(List::of(bytes))
-    }
-
-    /// The bytes.
-    pub fn as_slice(&self) -> &[u8]
-        ensures { result.now ≡ self.now }
-    {
-        self.0.as_slice()
-    }
-
-    /// How many bytes there are.
-    pub fn len(&self) -> usize
-        ensures { result ≡ length self.now }
-    {
-        self.0.len()
-    }
-
-    /// Is there no byte?
-    pub fn is_empty(&self) -> bool
-        ensures { result ≡ (length self.now == 0) }
-    {
-        self.0.is_empty()
-    }
-}
-
-impl Copied for Bytes {
-    ghost use Rattle.std.proofs.Common.{rules};
-
-    ghost exact = { Prim.search rules };
 }

@@ -1,9 +1,10 @@
 ghost use Rattle.std.proofs.Common.{rules};
 
-use crate::{Copied, Counted, JobId, JobRow, Kind, List, Moment, Name, Pid, Text};
+use crate::{Copied, Counted, JobId, JobRow, Kind, List, Moment, Name, Pid, Stage, State, Text};
+use thiserror::Error;
 
 /// The place that a transition gives a job.
-#[derive(Clone, Copy, Debug, PartialEq, Eq)]
+#[derive(Clone, Copy)]
 pub enum Put {
     /// Ready, with the generation of the permit that it takes.
     Ready(Option<u64>),
@@ -14,7 +15,7 @@ pub enum Put {
 }
 
 /// What a failure leaves in a job's row.
-#[derive(Clone, Debug, PartialEq, Eq, Drop)]
+#[derive(Clone, Drop)]
 pub struct Counters {
     pub executions: u32,
     pub counts: List<Counted>,
@@ -25,7 +26,7 @@ impl Copied for Counters {
 }
 
 /// One change of the store.
-#[derive(Clone, Debug, PartialEq, Eq, Drop)]
+#[derive(Clone, Drop)]
 pub enum Transition {
     Enqueue {
         row: JobRow,
@@ -97,8 +98,60 @@ impl Copied for Transition {
     ghost exact = { Prim.search rules };
 }
 
+/// A job isn't in the state that a transition takes it from.
+#[derive(Clone, Copy, Debug, Error)]
+#[error("job {id} is not in the state that the transition takes it from")]
+pub struct WrongState {
+    pub id: JobId,
+    /// Where it is in place of that, if it is there.
+    pub state: Option<Stage>,
+}
+
+impl Transition {
+    ghost use Rattle.std.specs.Prelude.{◌≡◌, option_map};
+    ghost use Rattle.std.specs.Option.{option_copied};
+    ghost use Rattle.job_states.specs.States.{stage_of, taken_from, check_of};
+
+    /// Is the state before, if there is such a job, the one that a transition of a job takes it from? Those of processes,
+    /// queues, keys and tasks take no job from a state. It takes no memory.
+    pub fn check(&self, from: Option<&State>) -> Result<(), WrongState>
+        ensures { result ≡ check_of self.now (option_map stage_of (option_copied from.entry)) }
+    {
+        let state = from.map(|state| state.stage());
+        match self.taken_from(state) {
+            Some((id, false)) => Err(WrongState { id, state }),
+            _ => Ok(()),
+        }
+    }
+
+    // The job that the transition moves, and whether this is the stage that it takes it from.
+    fn taken_from(&self, stage: Option<Stage>) -> Option<(JobId, bool)>
+        ensures { result ≡ taken_from stage self.now }
+    {
+        Some(match self {
+            Transition::Enqueue { row, .. } => (row.id, stage.is_none()),
+            Transition::Dispatch { id, .. } => (*id, matches!(stage, Some(Stage::Scheduled))),
+            Transition::Claim { id, .. } => (*id, matches!(stage, Some(Stage::Ready))),
+            Transition::Done { id } | Transition::Fail { id, .. } | Transition::Release { id } => {
+                (*id, matches!(stage, Some(Stage::Claimed)))
+            }
+            Transition::Unblock { id, .. } => (*id, matches!(stage, Some(Stage::Blocked))),
+            Transition::Retry { id, .. } => (*id, matches!(stage, Some(Stage::Failed))),
+            Transition::Discard { id } => (
+                *id,
+                matches!(
+                    stage,
+                    Some(Stage::Scheduled | Stage::Ready | Stage::Blocked | Stage::Failed)
+                ),
+            ),
+            Transition::Clear { id } => (*id, matches!(stage, Some(Stage::Finished))),
+            _ => return None,
+        })
+    }
+}
+
 /// Changes that are made together, at one moment.
-#[derive(Clone, Debug, PartialEq, Eq, Drop)]
+#[derive(Clone, Drop)]
 pub struct Transaction {
     pub moment: Moment,
     /// 1 to 2000 of them.
