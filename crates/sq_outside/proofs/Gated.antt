@@ -1,23 +1,24 @@
 -- What a crash leaves while a record is added behind a gate.
-use Rattle.std.proofs.Common.{◌≡◌, ◌≢◌, inl, inr, ⊎_elim, ℕ, zero, suc, ◌+◌, ◌-◌, ◌<◌, ◌≤◌, List, [], ◌∷◌, ◌++◌, length, get_or, take, drop, refl, sym, ◌∙◌, ap, subst, arith, length-append}
+use Rattle.std.proofs.Common.{◌≡◌, ◌≢◌, inl, inr, ⊎_elim, ℕ, zero, suc, ◌+◌, ◌-◌, ◌<◌, ◌≤◌, List, [], ◌∷◌, ◌++◌, length, get_or, take, drop, Some, refl, sym, ◌∙◌, ap, subst, arith, length-append}
 use Rattle.std.proofs.lemmas.List.{ext_get_or, length-take-le, get_or-take, get_or-append_right, get_or_append_left, get_or_at}
 use Rattle.std.proofs.lemmas.Bool.{cases_eq}
 use Rattle.sq_outside.specs.File.{File, IsImage, IsTorn, settled, in_doubt, overwritten}
-use Rattle.sq_outside.specs.declared.range.Range.{Range}
-use Rattle.sq_outside.specs.Disk.{Two, nth, Leaves, AreSound, History, KeepsEach}
+use Rattle.sq_outside.specs.declared.memory.range.Range.{Range}
+use Rattle.sq_outside.specs.Disk.{Two, nth, Leaves, AreSound, History, LeavesOnly}
 use Rattle.sq_outside.specs.Gated.{IsBefore, IsAfter, IsBeforeOrAfter, IsAtRest, IsLoose}
 use Rattle.sq_outside.specs.declared.disk_client.TheConstants.{OPEN}
-use Rattle.sq_outside.proofs.Histories.{one_leaves, leaves_nth, sound_nth, kept_here, kept_on}
+use Rattle.sq_outside.proofs.Histories.{one_leaves, leaves_nth, sound_nth}
+use Rattle.sq_outside.proofs.Rising.{kept_here, kept_on}
 use Rattle.sq_outside.proofs.Overwritten.{within_overwritten}
 use Rattle.sq_outside.proofs.Torn.{torn}
-use Rattle.sq_outside.proofs.Images.{below_or_from, same_front, settled_image}
+use Rattle.sq_outside.proofs.Images.{below_or_from, same_prefix, settled_image}
 
 module _ (bytes added : List ℕ) (gate : ℕ) (here : gate < length bytes) (closed : get_or bytes gate 0 ≢ OPEN) where
   -- the closed gate stands in each image while the record is written behind it
   pub behind : (image : List ℕ) → IsImage (in_doubt (record { at = gate + 1; count = length added }) (settled bytes).unsynced) image → IsBefore bytes gate image
   behind image is =
       let long = is.no_shorter in (
-        same_front gate image bytes (omega arith) (omega arith) (λ place below. is.stays place (omega arith) (inl (omega arith), tt)),
+        same_prefix gate image bytes (omega arith) (omega arith) (λ place below. is.stays place (omega arith) (inl (omega arith), tt)),
         λ opened. closed (sym (is.stays gate here (inl (omega arith), tt)) ∙ opened),
       )
 
@@ -49,7 +50,7 @@ module _ (bytes added : List ℕ) (gate : ℕ) (here : gate < length bytes) (clo
 
   pub staged_before : IsBefore bytes gate written
   staged_before = (
-    let long = long_enough in same_front gate written bytes (omega arith) (omega arith) (λ k below. in_front k (omega arith)),
+    let long = long_enough in same_prefix gate written bytes (omega arith) (omega arith) (λ k below. in_front k (omega arith)),
     λ opened. closed (sym (in_front gate (omega arith)) ∙ opened),
   )
 
@@ -97,7 +98,7 @@ module _ (bytes added : List ℕ) (gate : ℕ) (here : gate < length bytes) (clo
     opening = elim (cases_eq (get_or image gate 0) OPEN) [
       | inl opened ↦ inr (when_open opened)
       | inr shut ↦ inl (
-        same_front gate image bytes (let l = long_enough in let e = is.no_shorter in omega arith) (omega arith)
+        same_prefix gate image bytes (let l = long_enough in let e = is.no_shorter in omega arith) (omega arith)
             (λ k below. elsewhere k (let l = long_enough in omega arith) (omega arith) ∙ in_front k (omega arith)),
         shut,
       )
@@ -126,25 +127,25 @@ module _ (file gate : ℕ) (added : List ℕ) (old : History) (rest : IsAtRest g
   at_rest : (nth file old.now).unsynced ≡ (settled bytes).unsynced
   at_rest = ap (λ (f : File). f.unsynced) rest.synced
 
-  pub started : KeepsEach P old old
+  pub started : LeavesOnly P (Some old) (Some old)
   started = kept_here P old (leaves_nth file Either old.now (λ image is.
       let same = settled_image bytes image (subst (λ u. IsImage u image) at_rest is) in
       subst Either (sym same) (inl (refl, rest.closed))))
 
   -- while the record is written
-  pub behind_gate : (new : History) → new.earlier ≡ old.earlier ++ old.now ∷ [] → (nth file new.now).unsynced ≡ in_doubt first (nth file old.now).unsynced → KeepsEach P old new
+  pub behind_gate : (new : History) → new.earlier ≡ old.earlier ++ old.now ∷ [] → (nth file new.now).unsynced ≡ in_doubt first (nth file old.now).unsynced → LeavesOnly P (Some old) (Some new)
   behind_gate new earlier asked = kept_on P old old new started earlier (leaves_nth file Either new.now (λ image is.
       inl (behind bytes added gate rest.here rest.closed image (subst (λ u. IsImage u image) (asked ∙ ap (in_doubt first) at_rest) is))))
 
   -- and synced
-  pub behind_synced : (mid new : History) → KeepsEach P old mid → new.earlier ≡ mid.earlier ++ mid.now ∷ [] → nth file new.now ≡ settled staged → KeepsEach P old new
+  pub behind_synced : (mid new : History) → LeavesOnly P (Some old) (Some mid) → new.earlier ≡ mid.earlier ++ mid.now ∷ [] → nth file new.now ≡ settled staged → LeavesOnly P (Some old) (Some new)
   behind_synced mid new so_far earlier is = kept_on P old mid new so_far earlier (leaves_nth file Either new.now (λ image left.
       let same = settled_image staged image (subst (λ (f : File). IsImage f.unsynced image) is left) in
       subst Either (sym same) (inl (staged_before bytes added gate rest.here rest.closed))))
 
   -- while the gate is opened
-  pub at_gate : (mid new : History) → KeepsEach P old mid → nth file mid.now ≡ settled staged → new.earlier ≡ mid.earlier ++ mid.now ∷ []
-      → (nth file new.now).unsynced ≡ in_doubt second (nth file mid.now).unsynced → KeepsEach P old new
+  pub at_gate : (mid new : History) → LeavesOnly P (Some old) (Some mid) → nth file mid.now ≡ settled staged → new.earlier ≡ mid.earlier ++ mid.now ∷ []
+      → (nth file new.now).unsynced ≡ in_doubt second (nth file mid.now).unsynced → LeavesOnly P (Some old) (Some new)
   at_gate mid new so_far was earlier asked = kept_on P old mid new so_far earlier (leaves_nth file Either new.now (λ image is.
       opening bytes added gate rest.here rest.closed image (subst (λ u. IsImage u image) (asked ∙ ap (λ (f : File). in_doubt second f.unsynced) was) is)))
 
@@ -163,7 +164,7 @@ module _ (file gate : ℕ) (added : List ℕ) (old : History) (rest : IsAtRest g
       ∙ get_or_at (take gate staged) OPEN [] 0 gate (length-take-le gate staged (omega arith)) in
       subst (IsAfter bytes gate added) (sym same) (when_open bytes added gate rest.here rest.closed final own open_gate))
 
-  pub kept_added : (mid new : History) → KeepsEach P old mid → new.earlier ≡ mid.earlier ++ mid.now ∷ [] → Leaves (λ image. IsAfter bytes gate added (nth file image)) new.now → KeepsEach P old new
+  pub kept_added : (mid new : History) → LeavesOnly P (Some old) (Some mid) → new.earlier ≡ mid.earlier ++ mid.now ∷ [] → Leaves (λ image. IsAfter bytes gate added (nth file image)) new.now → LeavesOnly P (Some old) (Some new)
   kept_added mid new so_far earlier here = kept_on P old mid new so_far earlier (λ image are. inr (here image are))
 
 -- While a gate is written whose record is all there, each image has the record still.
@@ -185,11 +186,11 @@ module _ (file gate : ℕ) (bytes added : List ℕ) (old : History) (sound : Are
   still_loose : (image : List ℕ) → IsImage (in_doubt at_gate_alone (nth file old.now).unsynced) image → Loose image
   still_loose image is =
       let own = sound_nth file old.now sound in
-      let before = torn at_gate_alone (nth file old.now).unsynced own.synced (omega (arith, own.reads.no_shorter, own.reads.no_longer)) (omega (arith, own.reads.no_longer)) image is in
+      let before = torn at_gate_alone (nth file old.now).unsynced own.synced.bytes (omega (arith, own.reads.no_shorter, own.reads.no_longer)) (omega (arith, own.reads.no_longer)) image is in
       torn_loose before.0 image (one_leaves file Loose old.now sound loose before.0 before.1) before.2
 
   pub loose_written : (new : History) → new.earlier ≡ old.earlier ++ old.now ∷ [] → (nth file new.now).unsynced ≡ in_doubt at_gate_alone (nth file old.now).unsynced
-      → KeepsEach (λ image. Loose (nth file image)) old new
+      → LeavesOnly (λ image. Loose (nth file image)) (Some old) (Some new)
   loose_written new earlier asked = kept_on (λ image. Loose (nth file image)) old old new (kept_here (λ image. Loose (nth file image)) old loose) earlier
       (leaves_nth file Loose new.now (λ image is. still_loose image (subst (λ u. IsImage u image) asked is)))
 
@@ -202,7 +203,7 @@ module _ (file gate : ℕ) (bytes added : List ℕ) (old : History) (sound : Are
     only_reads : (image : List ℕ) → IsImage (nth file new.now).unsynced image → image ≡ (nth file mid.now).reads
     only_reads image left = settled_image (nth file mid.now).reads image (subst (λ (f : File). IsImage f.unsynced image) is left)
 
-    pub loose_synced : KeepsEach (λ image. Loose (nth file image)) old mid → new.earlier ≡ mid.earlier ++ mid.now ∷ [] → KeepsEach (λ image. Loose (nth file image)) old new
+    pub loose_synced : LeavesOnly (λ image. Loose (nth file image)) (Some old) (Some mid) → new.earlier ≡ mid.earlier ++ mid.now ∷ [] → LeavesOnly (λ image. Loose (nth file image)) (Some old) (Some new)
     loose_synced so_far earlier = kept_on (λ image. Loose (nth file image)) old mid new so_far earlier
         (leaves_nth file Loose new.now (λ image left. subst Loose (sym (only_reads image left)) reads_loose))
 
@@ -212,6 +213,6 @@ module _ (file gate : ℕ) (bytes added : List ℕ) (old : History) (sound : Are
         ap (λ (l : List ℕ). get_or l gate 0) reads ∙ ap (λ (i : ℕ). get_or (overwritten (nth file old.now).reads gate (byte ∷ [])) i 0) (omega arith)
         ∙ within_overwritten (nth file old.now).reads (byte ∷ []) gate here 0 (omega arith) in
         subst (IsBefore bytes gate) (sym (only_reads image left)) (
-          same_front gate (nth file mid.now).reads bytes (omega (arith, reads_loose.long)) long reads_loose.front,
+          same_prefix gate (nth file mid.now).reads bytes (omega (arith, reads_loose.long)) long reads_loose.front,
           λ opened. shut (sym closed ∙ opened),
         ))

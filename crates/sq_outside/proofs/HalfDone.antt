@@ -4,18 +4,18 @@ use Rattle.sq_outside.specs.File.{File, HalfWrites}
 use Rattle.sq_outside.specs.Disk.{History, nth, GoesOn}
 use Rattle.sq_outside.specs.MemoryFile.{written}
 use Rattle.sq_outside.specs.MemoryDisk.{with_nth}
-use Rattle.sq_outside.proofs.Overwritten.{length-overwritten, before_overwritten, behind_overwritten}
+use Rattle.sq_outside.proofs.Overwritten.{length-overwritten, before_overwritten, after_overwritten}
 use Rattle.sq_outside.proofs.Logs.{changes}
 
-pub half_written : (at count : ℕ) (front : List ℕ) (file : File) → at ≤ length file.reads → length front ≤ count → at + count < 2 ^ 63 → HalfWrites at count file (written at front count file)
-half_written at count front file within fewer fits =
-    let long = length-overwritten file.reads front at within in
+pub half_written : (at count : ℕ) (prefix : List ℕ) (file : File) → at ≤ length file.reads → length prefix ≤ count → at + count < 2 ^ 63 → HalfWrites at count file (written at prefix count file)
+half_written at count prefix file within fewer fits =
+    let long = length-overwritten file.reads prefix at within in
     record {
       fits = fits;
       reads = record {
         no_shorter = omega arith;
         no_longer = omega arith;
-        elsewhere = λ place apart. ⊎_elim (before_overwritten file.reads front at within place) (λ past. behind_overwritten file.reads front at within place (omega arith)) apart;
+        elsewhere = λ place apart. ⊎_elim (before_overwritten file.reads prefix at within place) (λ past. after_overwritten file.reads prefix at within place (omega arith)) apart;
       };
       unsynced = refl;
     }

@@ -1,9 +1,8 @@
 -- How the history of a disk goes on from call to call.
-use Rattle.std.proofs.Common.{◌≡◌, ◌⊎◌, inl, inr, ℕ, zero, suc, List, [], ◌∷◌, ◌++◌, Option, None, Some, IfSome, refl, sym, ◌∙◌, ap, subst, append_assoc}
-use Rattle.std.proofs.lemmas.List.{append-nil}
-use Rattle.std.specs.List.{AllByRecursion}
-use Rattle.sq_outside.specs.File.{File, IsImage, IsSound}
-use Rattle.sq_outside.specs.Disk.{Two, nth, Leaves, AreSound, History, Changes, GoesOn, MayGoOn, KeepsEach, LeavesOnly}
+use Rattle.std.proofs.Common.{◌≡◌, ◌⊎◌, inl, inr, ℕ, zero, suc, ◌-◌, ◌≤◌, List, [], ◌∷◌, ◌++◌, Option, None, Some, IfSome, refl, sym, ◌∙◌, subst, arith}
+use Rattle.sq_outside.specs.File.{File, Unsynced, IsImage, IsSound, HalfSyncs, settled}
+use Rattle.sq_outside.specs.Disk.{Two, nth, Leaves, AreSound, History, Changes, GoesOn, MayGoOn}
+use Rattle.sq_outside.proofs.Images.{settled_image}
 
 pub if_some : {A : Type 0} (o : Option A) (P : A → Type 0) → ((x : A) → o ≡ Some x → P x) → IfSome o P
 if_some None P h = tt
@@ -38,6 +37,13 @@ pub may_next : {file : ℕ} {step : File → File → Type 0} (before new : Opti
 may_next before new old is (inl same) = inl (same ∙ is)
 may_next before new old is (inr goes) = inr (next before new old is goes)
 
+-- how the file stands after a step
+pub now_is : (file : ℕ) (step : File → File → Type 0) (before new : Option History) (Q R : File → Type 0) → GoesOn file step before new → ((old now : File) → step old now → Q old → R now)
+    → IfSome before (λ old. Q (nth file old.now)) → IfSome new (λ after. R (nth file after.now))
+now_is file step None new Q R goes then here = let P : Option History → Type 0 = λ h. IfSome h (λ after. R (nth file after.now)) in subst P (sym goes) tt
+now_is file step (Some old) None Q R goes then here = absurd goes
+now_is file step (Some old) (Some new) Q R goes then here = then (nth file old.now) (nth file new.now) goes.1.this here
+
 -- each image of one file
 pub leaves_nth : (file : ℕ) (Q : List ℕ → Type 0) (files : Two File) → ((image : List ℕ) → IsImage (nth file files).unsynced image → Q image) → Leaves (λ image. Q (nth file image)) files
 leaves_nth zero Q files h = λ image are. h image.0 are.0
@@ -52,47 +58,36 @@ pub sound_nth : (file : ℕ) (files : Two File) → AreSound files → IsSound (
 sound_nth zero files sound = sound.0
 sound_nth (suc n) files sound = sound.1
 
-all_snoc : {A : Type 0} (P : A → Type 0) (xs : List A) (y : A) → AllByRecursion P xs → P y → AllByRecursion P (xs ++ y ∷ [])
-all_snoc P [] y each last = (last, tt)
-all_snoc P (x ∷ xs) y each last = (each.0, all_snoc P xs y each.1 last)
+-- what is read is one of the images
+pub read_has : (file : ℕ) (Q : List ℕ → Type 0) (files : Two File) → AreSound files → Leaves (λ image. Q (nth file image)) files → Q (nth file files).reads
+read_has file Q files sound leaves = one_leaves file Q files sound leaves (nth file files).reads (sound_nth file files sound).reads
 
-all_append : {A : Type 0} (P : A → Type 0) (xs ys : List A) → AllByRecursion P xs → AllByRecursion P ys → AllByRecursion P (xs ++ ys)
-all_append P [] ys each others = others
-all_append P (x ∷ xs) ys each others = (each.0, all_append P xs ys each.1 others)
+-- both files, each for itself
+pub leaves_both : (Q R : List ℕ → Type 0) (files : Two File) → Leaves (λ image. Q image.0) files → Leaves (λ image. R image.1) files → Leaves (λ image. Q image.0 × R image.1) files
+leaves_both Q R files first second = λ image are. (first image are, second image are)
 
-all_weaker : {A : Type 0} (P Q : A → Type 0) (xs : List A) → ((x : A) → P x → Q x) → AllByRecursion P xs → AllByRecursion Q xs
-all_weaker P Q [] h each = tt
-all_weaker P Q (x ∷ xs) h each = (h x each.0, all_weaker P Q xs h each.1)
+pub leaves_weaker : (P Q : Two (List ℕ) → Type 0) (files : Two File) → ((image : Two (List ℕ)) → P image → Q image) → Leaves P files → Leaves Q files
+leaves_weaker P Q files weaker leaves = λ image are. weaker image (leaves image are)
 
-module _ (P : Two (List ℕ) → Type 0) where
-  -- no call yet
-  pub kept_here : (h : History) → Leaves P h.now → KeepsEach P h h
-  kept_here h here = record { since = []; follow = sym (append-nil (h.earlier ++ h.now ∷ [])); each = (here, tt) }
+-- the one image of a file that is synced
+pub synced_has : (bytes : List ℕ) (file : File) (Q : List ℕ → Type 0) → file ≡ settled bytes → Q bytes → (image : List ℕ) → IsImage file.unsynced image → Q image
+synced_has bytes file Q synced here image is = subst Q (sym (settled_image bytes image (subst (λ (f : File). IsImage f.unsynced image) synced is))) here
 
-  -- one call more
-  pub kept_on : (old mid new : History) → KeepsEach P old mid → new.earlier ≡ mid.earlier ++ mid.now ∷ [] → Leaves P new.now → KeepsEach P old new
-  kept_on old mid new so_far earlier here = record {
-    since = so_far.since ++ new.now ∷ [];
-    follow = ap (λ (states : List (Two File)). states ++ new.now ∷ []) (earlier ∙ so_far.follow) ∙ append_assoc (old.earlier ++ old.now ∷ []) so_far.since (new.now ∷ []);
-    each = all_snoc (Leaves P) (old.now ∷ so_far.since) new.now so_far.each here;
-  }
+-- files of which a crash leaves the same
+same_leaves : (P : Two (List ℕ) → Type 0) (old new : Two File) → new.0.unsynced ≡ old.0.unsynced → new.1.unsynced ≡ old.1.unsynced → Leaves P old → Leaves P new
+same_leaves P old new zeroth first leaves = λ image are. leaves image (subst (λ (u : Unsynced). IsImage u image.0) zeroth are.0, subst (λ (u : Unsynced). IsImage u image.1) first are.1)
 
-  -- one run after the other
-  pub kept_through : (old mid new : History) → KeepsEach P old mid → KeepsEach P mid new → KeepsEach P old new
-  kept_through old mid new first second = record {
-    since = first.since ++ second.since;
-    follow = second.follow ∙ ap (λ (states : List (Two File)). states ++ second.since) first.follow ∙ append_assoc (old.earlier ++ old.now ∷ []) first.since second.since;
-    each = all_append (Leaves P) (old.now ∷ first.since) second.since first.each second.each.1;
-  }
+unsynced_same : (old new : File) → new ≡ old → new.unsynced ≡ old.unsynced
+unsynced_same old new same = subst (λ (f : File). f.unsynced ≡ old.unsynced) (sym same) refl
 
-  pub leaves_only : (before new : Option History) (old now : History) → before ≡ Some old → new ≡ Some now → KeepsEach P old now → LeavesOnly P before new
-  leaves_only before new old now is_old is_new keeps =
-      subst (λ b. LeavesOnly P b new) (sym is_old) (subst (λ n. LeavesOnly P (Some old) n) (sym is_new) keeps)
+-- a failed sync takes nothing from what a crash leaves
+pub half_synced_leaves : (file : ℕ) (P : Two (List ℕ) → Type 0) (old new : Two File) → file ≤ 1 → Changes file HalfSyncs old new → Leaves P old → Leaves P new
+half_synced_leaves zero P old new small change leaves = same_leaves P old new change.this (unsynced_same old.1 new.1 change.other) leaves
+half_synced_leaves (suc zero) P old new small change leaves = same_leaves P old new (unsynced_same old.0 new.0 change.other) change.this leaves
+half_synced_leaves (suc (suc n)) P old new small change leaves = absurd (omega arith)
 
--- what has P has Q
-pub kept_weaker : (P Q : Two (List ℕ) → Type 0) (old new : History) → ((image : Two (List ℕ)) → P image → Q image) → KeepsEach P old new → KeepsEach Q old new
-kept_weaker P Q old new weaker keeps = record {
-  since = keeps.since;
-  follow = keeps.follow;
-  each = all_weaker (Leaves P) (Leaves Q) (old.now ∷ keeps.since) (λ files leaves image are. weaker image (leaves image are)) keeps.each;
-}
+-- a call on one file takes nothing from what a crash leaves of the other
+pub other_stays : (step : File → File → Type 0) (file : ℕ) (Q : List ℕ → Type 0) (old new : Two File) → file ≤ 1 → AreSound old → Changes file step old new
+    → Leaves (λ image. Q (nth (1 - file) image)) old → Leaves (λ image. Q (nth (1 - file) image)) new
+other_stays step file Q old new small sound change leaves = leaves_nth (1 - file) Q new (λ image is.
+    one_leaves (1 - file) Q old sound leaves image (subst (λ (f : File). IsImage f.unsynced image) change.other is))

@@ -9,8 +9,8 @@ below_or_from zero (suc n) = inl (omega arith)
 below_or_from (suc k) (suc n) = ⊎_elim (λ below. inl (omega arith)) (λ from. inr (omega arith)) (below_or_from k n)
 
 -- bytes that are alike place by place
-pub same_front : (n : ℕ) (xs ys : List ℕ) → n ≤ length xs → n ≤ length ys → ((place : ℕ) → place < n → get_or xs place 0 ≡ get_or ys place 0) → take n xs ≡ take n ys
-same_front n xs ys long_xs long_ys same =
+pub same_prefix : (n : ℕ) (xs ys : List ℕ) → n ≤ length xs → n ≤ length ys → ((place : ℕ) → place < n → get_or xs place 0 ≡ get_or ys place 0) → take n xs ≡ take n ys
+same_prefix n xs ys long_xs long_ys same =
     let xs_long = length-take-le n xs long_xs in
     let ys_long = length-take-le n ys long_ys in
     ext_get_or 0 (take n xs) (take n ys) (xs_long ∙ sym ys_long)

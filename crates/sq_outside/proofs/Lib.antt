@@ -5,5 +5,7 @@ pub mod Images
 pub mod Logs
 pub mod Outside
 pub mod Overwritten
+pub mod Rising
 pub mod Sound
 pub mod Torn
+pub mod Written

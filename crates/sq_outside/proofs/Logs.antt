@@ -3,7 +3,7 @@ use Rattle.std.proofs.Common.{◌≡◌, ℕ, zero, suc, ◌≤◌, List, [], �
 use Rattle.sq_outside.specs.File.{File}
 use Rattle.sq_outside.specs.Disk.{Two, nth, History, Changes}
 use Rattle.sq_outside.specs.MemoryDisk.{with_nth, entered, before_each, after_all}
-use Rattle.sq_outside.specs.declared.change.Entry.{Entry}
+use Rattle.sq_outside.specs.declared.memory.change.Entry.{Entry}
 
 pub after_all-push : (files : Two File) (log : List Entry) (entry : Entry) → after_all files (log ++ entry ∷ []) ≡ entered entry (after_all files log)
 after_all-push files [] entry = refl

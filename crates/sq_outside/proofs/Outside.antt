@@ -3,7 +3,7 @@ use Rattle.std.proofs.Common.{◌≡◌, ◌⊎◌, ⊎_elim, ℕ, zero, suc, �
 use Rattle.std.specs.Prelude.{Any, reverse}
 use Rattle.std.proofs.lemmas.List.{get_or-reverse, length-reverse}
 use Rattle.sq_outside.specs.File.{IsOutside}
-use Rattle.sq_outside.specs.declared.range.Range.{Range}
+use Rattle.sq_outside.specs.declared.memory.range.Range.{Range}
 
 outside_at : (ranges : List Range) (place k : ℕ) (d : Range) → IsOutside ranges place → k < length ranges → (place < (get_or ranges k d).at) ⊎ ((get_or ranges k d).at + (get_or ranges k d).count ≤ place)
 outside_at [] place k d outside below = absurd (omega arith)

@@ -2,7 +2,7 @@
 use Rattle.std.proofs.Common.{◌≡◌, ◌⊎◌, inl, inr, ℕ, zero, suc, ◌+◌, ◌<◌, ◌≤◌, min, List, [], ◌∷◌, ◌++◌, length, get_or, refl, sym, ◌∙◌, arith}
 use Rattle.std.proofs.lemmas.List.{get_or_append_left, get_or_past, length_push, get_or_push}
 use Rattle.sq_outside.specs.File.{Unsynced, IsOutside, IsImage, IsTorn, AreBytes, in_doubt}
-use Rattle.sq_outside.specs.declared.range.Range.{Range}
+use Rattle.sq_outside.specs.declared.memory.range.Range.{Range}
 use Rattle.sq_outside.proofs.Images.{below_or_from}
 
 listed : (ℕ → ℕ) → ℕ → List ℕ
@@ -107,4 +107,4 @@ module _ (range : Range) (file : Unsynced) (bytes : AreBytes file.synced) (lengt
 
       ends : (place : ℕ) → (place < range.at) ⊎ (range.at + range.count ≤ place) → length older ≤ place → length image ≤ place
       ends place (inl before) past = let long = older_long in omega arith
-      ends place (inr behind) past = let long = older_long in omega (arith, is.no_longer)
+      ends place (inr after) past = let long = older_long in omega (arith, is.no_longer)

@@ -1,6 +1,5 @@
 -- The two files of a disk through all its calls, and what a crash at each moment may leave of them.
-use Rattle.std.specs.Prelude.{◌≡◌, ◌⊎◌, ℕ, zero, suc, ◌-◌, List, [], ◌∷◌, ◌++◌, Option, None, Some}
-use Rattle.std.specs.List.{AllByRecursion}
+use Rattle.std.specs.Prelude.{◌≡◌, ◌⊎◌, ℕ, zero, suc, ◌-◌, ◌≤◌, List, [], ◌∷◌, ◌++◌, Option, None, Some}
 use Rattle.sq_outside.specs.File.{File, IsImage, IsSound, settled}
 
 -- file 0 and file 1
@@ -47,14 +46,22 @@ MayGoOn file step old new = (new ≡ old) ⊎ GoesOn file step old new
 abbrev pub AreSound : Two File → Type 0
 AreSound files = IsSound files.0 × IsSound files.1
 
--- From old to new the files stood so, one after the other, and at each of these moments each image had P.
-pub record KeepsEach (P : Two (List ℕ) → Type 0) (old new : History) : Type 0 where
-  pub since : List (Two File)
-  pub follow : new.earlier ++ new.now ∷ [] ≡ (old.earlier ++ old.now ∷ []) ++ since
-  pub each : AllByRecursion (Leaves P) (old.now ∷ since)
+-- Each image at each of these moments has P of a number, and from moment to moment the numbers never fall.
+abbrev pub Rises : (ℕ → Two (List ℕ) → Type 0) → ℕ → List (Two File) → ℕ → Type 0
+Rises P from [] to = from ≤ to
+Rises P from (files ∷ more) to = (number : ℕ) × (from ≤ number) × Leaves (P number) files × Rises P number more to
 
--- A crash at any moment from old on up to new leaves an image that has P, where the disk tells.
+-- how the files stood at each moment so far
+abbrev pub moments_of : History → List (Two File)
+moments_of history = history.earlier ++ history.now ∷ []
+
+-- A crash at any moment from old on up to new leaves an image that has P of a number, and from moment to moment the
+-- numbers never fall, where the disk exposes its history.
+abbrev pub LeavesRising : (ℕ → Two (List ℕ) → Type 0) → ℕ → ℕ → Option History → Option History → Type 0
+LeavesRising P from to None new = Unit {0}
+LeavesRising P from to (Some old) None = ⊥
+LeavesRising P from to (Some old) (Some new) = (since : List (Two File)) × (moments_of new ≡ moments_of old ++ since) × Rises P from (old.now ∷ since) to
+
+-- the same with one P
 abbrev pub LeavesOnly : (Two (List ℕ) → Type 0) → Option History → Option History → Type 0
-LeavesOnly P None new = Unit {0}
-LeavesOnly P (Some old) None = ⊥
-LeavesOnly P (Some old) (Some new) = KeepsEach P old new
+LeavesOnly P old new = LeavesRising (λ _. P) 0 0 old new

@@ -1,6 +1,6 @@
 -- A file of a disk: what a read gives, what a crash may leave, and what the calls do to both.
 use Rattle.std.specs.Prelude.{◌≡◌, ◌⊎◌, ℕ, ◌+◌, ◌^◌, ◌<◌, ◌≤◌, min, max, List, [], ◌∷◌, ◌++◌, length, take, drop, slice_index}
-use Rattle.sq_outside.specs.declared.range.Range.{Range}
+use Rattle.sq_outside.specs.declared.memory.range.Range.{Range}
 
 -- what the last sync left, and what calls have asked for since, failed ones too
 pub record Unsynced : Type 0 where
@@ -81,8 +81,12 @@ pub record HalfCuts (len : ℕ) (old new : File) : Type 0 where
 abbrev pub Syncs : File → File → Type 0
 Syncs old new = new ≡ settled old.reads
 
--- the file as it reads is one of its images, and none is longer than a file can be
+-- a sync that failed: a crash leaves what it might have left, and what a read gives may be lost
+abbrev pub HalfSyncs : File → File → Type 0
+HalfSyncs old new = new.unsynced ≡ old.unsynced
+
+-- the file as it reads and the file as synced are among its images, and none is longer than a file can be
 pub record IsSound (file : File) : Type 0 where
   pub reads : IsImage file.unsynced file.reads
-  pub synced : AreBytes file.unsynced.synced
+  pub synced : IsImage file.unsynced file.unsynced.synced
   pub bounded : file.unsynced.greatest < 2 ^ 63

@@ -1,6 +1,7 @@
 pub mod Disk
 pub mod Fault
 pub mod File
+pub mod FileDisk
 pub mod Gated
 pub mod Memory
 pub mod MemoryDisk
@@ -8,5 +9,6 @@ pub mod MemoryDiskView
 pub mod MemoryFile
 pub mod MemoryFileView
 pub mod Moments
-pub mod Opened
+pub mod OptionalFile
 pub mod StoreView
+pub mod Streams

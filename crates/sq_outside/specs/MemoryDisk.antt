@@ -5,7 +5,7 @@ use Rattle.sq_outside.specs.Fault.{raised}
 use Rattle.sq_outside.specs.File.{File}
 use Rattle.sq_outside.specs.Disk.{Two, History, fresh}
 use Rattle.sq_outside.specs.MemoryFile.{after}
-use Rattle.sq_outside.specs.declared.change.Entry.{Entry}
+use Rattle.sq_outside.specs.declared.memory.change.Entry.{Entry}
 
 -- one of the two is changed
 abbrev pub with_nth : {A : Type 0} → ℕ → (A → A) → Two A → Two A
@@ -42,6 +42,14 @@ pub record MemoryDisk : Type 0 where
 abbrev pub bytes_of : List (Vec ℕ Global) → Two (List ℕ)
 bytes_of (zeroth ∷ first ∷ _) = (zeroth.items, first.items)
 bytes_of _ = ([], [])
+
+-- what a read gives
+abbrev pub reads_of : Two File → Two (List ℕ)
+reads_of files = (files.0.reads, files.1.reads)
+
+-- what the last syncs left
+abbrev pub synced_of : Two File → Two (List ℕ)
+synced_of files = (files.0.unsynced.synced, files.1.unsynced.synced)
 
 -- with no call made yet
 abbrev pub unused : Two (List ℕ) → List (ℕ × ℕ) → MemoryDisk

@@ -1,5 +1,5 @@
 use Rattle.sq_outside.specs.MemoryDisk.{MemoryDisk}
-use Rattle.sq_outside.specs.declared.memory_disk.MemDisk.{MemDisk}
+use Rattle.sq_outside.specs.declared.memory.disk.MemDisk.{MemDisk}
 
 -- the disk that the fields stand for
 abbrev pub memory_disk : MemDisk → MemoryDisk

@@ -1,8 +1,8 @@
 -- A file in memory as contracts see it, and what the changes do to it.
 use Rattle.std.specs.Prelude.{ℕ, ◌+◌, ◌^◌, ◌<◌, ◌≤◌, List, length, take}
 use Rattle.sq_outside.specs.File.{File, in_doubt, shortened, overwritten, settled}
-use Rattle.sq_outside.specs.declared.change.Change.{Change}
-use Rattle.sq_outside.specs.declared.change.Change.TheVariants.{Written, Cut, Synced}
+use Rattle.sq_outside.specs.declared.memory.change.Change.{Change}
+use Rattle.sq_outside.specs.declared.memory.change.Change.TheVariants.{Written, Cut, Synced}
 
 -- after a write of these bytes, where count were asked for
 abbrev pub written : ℕ → List ℕ → ℕ → File → File
@@ -18,7 +18,7 @@ after (Cut asked len) file = cut asked len file
 after Synced file = settled file.reads
 
 -- the change can be made
-abbrev pub Fits : Change → File → Type 0
-Fits (Written at bytes count) file = (at ≤ length file.reads) × (length bytes.items ≤ count) × (at + count < 2 ^ 63)
-Fits (Cut asked len) file = (asked ≤ len) × (len ≤ length file.reads)
-Fits Synced file = Unit {0}
+abbrev pub FitsFile : Change → File → Type 0
+FitsFile (Written at bytes count) file = (at ≤ length file.reads) × (length bytes.items ≤ count) × (at + count < 2 ^ 63)
+FitsFile (Cut asked len) file = (asked ≤ len) × (len ≤ length file.reads)
+FitsFile Synced file = Unit {0}

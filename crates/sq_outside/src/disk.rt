@@ -1,7 +1,7 @@
 ghost use Rattle.std.specs.Prelude.{◌≡◌, ◌+◌, ◌-◌, ◌^◌, ◌<◌, ◌≤◌, ℕ, length, take, drop, min, Option, IfSome, IfOk, OnOk, OnErr};
 ghost use Rattle.sq_outside.specs.Fault.{HasCause};
 ghost use Rattle.sq_outside.specs.Disk.{History, nth, GoesOn, MayGoOn, AreSound};
-ghost use Rattle.sq_outside.specs.File.{Writes, HalfWrites, Cuts, HalfCuts, Syncs};
+ghost use Rattle.sq_outside.specs.File.{Writes, HalfWrites, Cuts, HalfCuts, Syncs, HalfSyncs};
 
 use crate::Failed;
 
@@ -11,7 +11,7 @@ pub const GREATEST_LENGTH: u64 = (1 << 63) - 1;
 /// Two files, numbered 0 and 1, of up to 2^63 - 1 bytes each. What is written is certain to outlast a crash only once
 /// its file is synced. A call on one file leaves the other one as it is.
 pub trait Disk {
-    /// How the files stood and stand, where this disk tells it.
+    /// How the files stood and stand, where this disk exposes it.
     ghost history: { Self → Option History };
 
     /// How many calls have failed, up to the greatest `u64`.
@@ -24,14 +24,14 @@ pub trait Disk {
         ensures kept { history self.new ≡ history self.old }
         ensures cause { HasCause (faults self.old) (faults self.new) result };
 
-    /// Copies the bytes from `at` on to the front of `buf`, as many as there are and as fit, and answers how many.
+    /// Copies the bytes from `at` on to the beginning of `buf`, as many as there are and as fit, and answers how many.
     /// After a failure the buffer may hold anything.
     fn read_at(&mut self, file: u8, at: u64, buf: &mut [u8]) -> Result<usize, Failed>
         requires { file ≤ 1 }
         ensures within { IfOk result (λ n. n ≤ length buf.old) }
         ensures count { IfOk result (λ n. IfSome (history self.old) (λ h. n ≡ min (length (nth file h.now).reads - at) (length buf.old))) }
-        ensures front { IfOk result (λ n. IfSome (history self.old) (λ h. take n buf.new ≡ take n (drop at (nth file h.now).reads))) }
-        ensures behind { IfOk result (λ n. drop n buf.new ≡ drop n buf.old) }
+        ensures prefix { IfOk result (λ n. IfSome (history self.old) (λ h. take n buf.new ≡ take n (drop at (nth file h.now).reads))) }
+        ensures after { IfOk result (λ n. drop n buf.new ≡ drop n buf.old) }
         ensures kept { history self.new ≡ history self.old }
         ensures cause { HasCause (faults self.old) (faults self.new) result };
 
@@ -53,11 +53,12 @@ pub trait Disk {
         ensures in_doubt { OnErr result (MayGoOn file (HalfCuts len) (history self.old) (history self.new)) }
         ensures cause { HasCause (faults self.old) (faults self.new) result };
 
-    /// After it a crash leaves of this file what a read gives. A failed sync makes nothing certain.
+    /// After it a crash leaves of this file what a read gives. A failed sync makes nothing certain, and what was written may
+    /// be lost even to reads: what a read then gives is open, and what was synced is untouched.
     fn sync(&mut self, file: u8) -> Result<(), Failed>
         requires { file ≤ 1 }
         ensures certain { OnOk result (GoesOn file Syncs (history self.old) (history self.new)) }
-        ensures kept { OnErr result (history self.new ≡ history self.old) }
+        ensures in_doubt { OnErr result (MayGoOn file HalfSyncs (history self.old) (history self.new)) }
         ensures cause { HasCause (faults self.old) (faults self.new) result };
 
     /// A disk as it reads is one of its images.

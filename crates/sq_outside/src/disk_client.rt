@@ -78,7 +78,7 @@ mod tests {
         for call in 1..5 {
             let mut disk = journal(alloc, vec![in alloc; (call, 2)]?)?;
             assert_eq!(rt; append(&mut disk, 1, 4, b"new\0"), Err(Failed));
-            for pick in 0..4000 {
+            for pick in 0..64 {
                 let left = disk.stopped(pick)?;
                 let bytes = left.bytes(1);
                 let is_before = bytes.starts_with(b"Rold") && bytes.get(4) != Some(&OPEN);

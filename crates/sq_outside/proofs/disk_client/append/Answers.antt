@@ -1,7 +1,8 @@
 use Rattle.std.proofs.Common.{◌∙◌, [], ◌∷◌, inl, inr, ap}
 use Rattle.sq_outside.specs.File.{File, settled, in_doubt, overwritten}
 use Rattle.sq_outside.specs.declared.disk_client.TheConstants.{OPEN}
-use Rattle.sq_outside.proofs.Histories.{if_some, some_is, at_some, next, may_next, leaves_only}
+use Rattle.sq_outside.proofs.Histories.{if_some, some_is, at_some, next, may_next}
+use Rattle.sq_outside.proofs.Rising.{leaves_only, failed_sync}
 use Rattle.sq_outside.proofs.Gated.{started, behind_gate, behind_synced, at_gate, after_all, kept_added}
 use Rattle.sq_outside.proofs.disk_client.append.Goals as goal
 
@@ -18,7 +19,7 @@ returns-in_err-sync-clause-any_moment g c = if_some _ _ (λ old is.
     let rest = at_some _ _ old is c.requires.at_rest in
     let wrote = next _ _ old is c.in_ok-write_at.ensures.written in
     let kept = behind_gate c.args.file c.args.gate c.args.added.now old rest wrote.after wrote.earlier wrote.change.this.unsynced in
-    leaves_only _ _ _ old wrote.after is (c.in_err-sync.ensures.kept ∙ wrote.is) kept)
+    failed_sync _ c.args.file _ _ _ old wrote.after c.requires.file is wrote.is kept c.in_err-sync.ensures.in_doubt)
 
 pub returns-in_err-write_at-2-clause-any_moment : goal.returns-in_err-write_at-2-clause-any_moment
 returns-in_err-write_at-2-clause-any_moment g c = if_some _ _ (λ old is.
@@ -43,7 +44,7 @@ returns-in_err-sync-2-clause-any_moment g c = if_some _ _ (λ old is.
     let kept_synced = behind_synced c.args.file c.args.gate c.args.added.now old rest wrote.after synced.after kept synced.earlier staged in
     let opened = next _ _ synced.after synced.is c.in_ok-write_at-2.ensures.written in
     let kept_opened = at_gate c.args.file c.args.gate c.args.added.now old rest synced.after opened.after kept_synced staged opened.earlier opened.change.this.unsynced in
-    leaves_only _ _ _ old opened.after is (c.in_err-sync-2.ensures.kept ∙ opened.is) kept_opened)
+    failed_sync _ c.args.file _ _ _ old opened.after c.requires.file is opened.is kept_opened c.in_err-sync-2.ensures.in_doubt)
 
 pub returns-clause-any_moment : goal.returns-clause-any_moment
 returns-clause-any_moment g c = if_some _ _ (λ old is.

@@ -1,6 +1,7 @@
-use Rattle.std.proofs.Common.{◌≢◌, ◌∙◌, inl, inr, arith}
+use Rattle.std.proofs.Common.{◌≢◌, inl, inr, arith}
 use Rattle.sq_outside.specs.declared.disk_client.TheConstants.{OPEN, CLOSED}
-use Rattle.sq_outside.proofs.Histories.{if_some_then, some_is, at_some, next, may_next, leaves_only, kept_here}
+use Rattle.sq_outside.proofs.Histories.{if_some_then, some_is, at_some, next, may_next}
+use Rattle.sq_outside.proofs.Rising.{leaves_only, kept_here, failed_sync}
 use Rattle.sq_outside.proofs.Gated.{loose_written, loose_synced, taken_back}
 use Rattle.sq_outside.proofs.disk_client.take_back.Goals as goal
 
@@ -19,7 +20,7 @@ returns-in_err-sync-clause-any_moment g c = λ bytes added. if_some_then _ _ _ (
     let here = at_some _ _ old is c.requires.place in
     let wrote = next _ _ old is c.in_ok-write_at.ensures.written in
     let kept = loose_written c.args.file c.args.gate bytes added old sound here loose wrote.after wrote.earlier wrote.change.this.unsynced in
-    leaves_only _ _ _ old wrote.after is (c.in_err-sync.ensures.kept ∙ wrote.is) kept)
+    failed_sync _ c.args.file _ _ _ old wrote.after c.requires.file is wrote.is kept c.in_err-sync.ensures.in_doubt)
 
 pub returns-clause-any_moment : goal.returns-clause-any_moment
 returns-clause-any_moment g c = λ bytes added. if_some_then _ _ _ (λ old is loose.
