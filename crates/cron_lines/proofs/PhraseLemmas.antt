@@ -10,55 +10,55 @@ use Rattle.cron_lines.specs.declared.fields.FieldKind.TheVariants as kinds
 use Rattle.cron_lines.specs.declared.times.Schedule.{Schedule}
 use Rattle.cron_lines.specs.declared.times.Schedule.TheVariants.{EverySecond}
 use Rattle.cron_lines.specs.Field.{number_of}
-use Rattle.cron_lines.specs.Phrase.{any, only, daily, behind, before, hourly_of, daily_of, or_else, phrase_of}
+use Rattle.cron_lines.specs.Phrase.{any, only, daily, after_prefix, before_suffix, hourly_of, daily_of, or_else, phrase_of}
 use Rattle.cron_lines.specs.Spelling.{IsPhrase, every_second, every_minute, every_hour, every_day, hourly, morning, afternoon, PhrasesAreSpelled}
 
--- ---- the bytes behind and before others
+-- ---- the bytes after a prefix and before a suffix
 
 same_bytes : (a : List ℕ) → bytes_eq a a ≡ true
 same_bytes a = (bytes_eq-Decides a a).1 refl
 
-behind-spelled : (front text rest : List ℕ) → behind front text ≡ Some rest → text ≡ front ++ rest
-behind-spelled front text rest h =
-    let got = cond_some (bytes_eq (take (length front) text) front) (drop (length front) text) rest h in
-    sym (take-append-drop (length front) text)
-    ∙ ap (λ x. x ++ drop (length front) text) ((bytes_eq-Decides (take (length front) text) front).0 got.0)
-    ∙ ap (λ x. front ++ x) got.1
+after_prefix-spelled : (prefix text rest : List ℕ) → after_prefix prefix text ≡ Some rest → text ≡ prefix ++ rest
+after_prefix-spelled prefix text rest h =
+    let got = cond_some (bytes_eq (take (length prefix) text) prefix) (drop (length prefix) text) rest h in
+    sym (take-append-drop (length prefix) text)
+    ∙ ap (λ x. x ++ drop (length prefix) text) ((bytes_eq-Decides (take (length prefix) text) prefix).0 got.0)
+    ∙ ap (λ x. prefix ++ x) got.1
 
-behind-read : (front rest : List ℕ) → behind front (front ++ rest) ≡ Some rest
-behind-read front rest =
-    ap (λ x. cond (bytes_eq x front) (Some (drop (length front) (front ++ rest))) None) (take-append_seam front rest)
-    ∙ ap (λ t. cond t (Some (drop (length front) (front ++ rest))) None) (same_bytes front)
-    ∙ ap (λ x. Some x) (drop-append_seam front rest)
+after_prefix-read : (prefix rest : List ℕ) → after_prefix prefix (prefix ++ rest) ≡ Some rest
+after_prefix-read prefix rest =
+    ap (λ x. cond (bytes_eq x prefix) (Some (drop (length prefix) (prefix ++ rest))) None) (take-append_seam prefix rest)
+    ∙ ap (λ t. cond t (Some (drop (length prefix) (prefix ++ rest))) None) (same_bytes prefix)
+    ∙ ap (λ x. Some x) (drop-append_seam prefix rest)
 
-before-spelled : (back text rest : List ℕ) → before back text ≡ Some rest → text ≡ rest ++ back
-before-spelled back text rest h =
-    let n = length text - length back in
-    let got = cond_some (bytes_eq (drop n text) back) (take n text) rest h in
+before_suffix-spelled : (suffix text rest : List ℕ) → before_suffix suffix text ≡ Some rest → text ≡ rest ++ suffix
+before_suffix-spelled suffix text rest h =
+    let n = length text - length suffix in
+    let got = cond_some (bytes_eq (drop n text) suffix) (take n text) rest h in
     sym (take-append-drop n text)
-    ∙ ap (λ x. take n text ++ x) ((bytes_eq-Decides (drop n text) back).0 got.0)
-    ∙ ap (λ x. x ++ back) got.1
+    ∙ ap (λ x. take n text ++ x) ((bytes_eq-Decides (drop n text) suffix).0 got.0)
+    ∙ ap (λ x. x ++ suffix) got.1
 
 -- bytes that are as many as those that are looked for
-before-at : (back rest tail : List ℕ) → length tail ≡ length back → before back (rest ++ tail) ≡ cond (bytes_eq tail back) (Some rest) None
-before-at back rest tail long =
+before_suffix-at : (suffix rest tail : List ℕ) → length tail ≡ length suffix → before_suffix suffix (rest ++ tail) ≡ cond (bytes_eq tail suffix) (Some rest) None
+before_suffix-at suffix rest tail long =
     let text = rest ++ tail in
-    let place : length text - length back ≡ length rest = omega (arith, length-append rest tail) in
-    ap (λ n. cond (bytes_eq (drop n text) back) (Some (take n text)) None) place
-    ∙ ap (λ x. cond (bytes_eq x back) (Some (take (length rest) text)) None) (drop-append_seam rest tail)
-    ∙ ap (λ x. cond (bytes_eq tail back) (Some x) None) (take-append_seam rest tail)
+    let place : length text - length suffix ≡ length rest = omega (arith, length-append rest tail) in
+    ap (λ n. cond (bytes_eq (drop n text) suffix) (Some (take n text)) None) place
+    ∙ ap (λ x. cond (bytes_eq x suffix) (Some (take (length rest) text)) None) (drop-append_seam rest tail)
+    ∙ ap (λ x. cond (bytes_eq tail suffix) (Some x) None) (take-append_seam rest tail)
 
 -- ---- what is read is spelled
 
 hourly-spelled : (text : List ℕ) (s : Schedule) → hourly_of text ≡ Some s → IsPhrase text s
 unfolding hourly_of
 hourly-spelled text s h =
-    option_and_then_some _ (option_and_then number_of (behind (codes "every hour at minute ") text)) s h (λ minute read_all made.
-    option_and_then_some number_of (behind (codes "every hour at minute ") text) minute read_all (λ digits parted read.
+    option_and_then_some _ (option_and_then number_of (after_prefix (codes "every hour at minute ") text)) s h (λ minute read_all made.
+    option_and_then_some number_of (after_prefix (codes "every hour at minute ") text) minute read_all (λ digits found read.
     let got = cond_some (nat_le minute 59) (daily (only minute) (any kinds.Hour)) s made in
     let P : Schedule → Type 0 = λ x. IsPhrase text x in
     let Q : List ℕ → Type 0 = λ t. IsPhrase t (daily (only minute) (any kinds.Hour)) in
-    subst P got.1 (subst Q (sym (behind-spelled (codes "every hour at minute ") text digits parted)) (hourly digits minute read (leb-true minute 59 got.0)))))
+    subst P got.1 (subst Q (sym (after_prefix-spelled (codes "every hour at minute ") text digits found)) (hourly digits minute read (leb-true minute 59 got.0)))))
 
 record IsDaily (half : List ℕ) (noon : ℕ) (text : List ℕ) (s : Schedule) : Type 0 where
   digits : List ℕ
@@ -72,15 +72,15 @@ record IsDaily (half : List ℕ) (noon : ℕ) (text : List ℕ) (s : Schedule) :
 daily-spelled : (half : List ℕ) (noon : ℕ) (text : List ℕ) (s : Schedule) → daily_of half noon text ≡ Some s → IsDaily half noon text s
 unfolding daily_of
 daily-spelled half noon text s h =
-    let front = behind (codes "at ") text in
-    option_and_then_some _ (option_and_then number_of (option_and_then (before half) front)) s h (λ hour read_all made.
-    option_and_then_some number_of (option_and_then (before half) front) hour read_all (λ digits parted read.
-    option_and_then_some (before half) front digits parted (λ rest first second.
+    let prefix = after_prefix (codes "at ") text in
+    option_and_then_some _ (option_and_then number_of (option_and_then (before_suffix half) prefix)) s h (λ hour read_all made.
+    option_and_then_some number_of (option_and_then (before_suffix half) prefix) hour read_all (λ digits found read.
+    option_and_then_some (before_suffix half) prefix digits found (λ rest first second.
     let got = cond_some (nat_le 1 hour && nat_le hour 12) (daily (only 0) (only (hour % 12 + noon))) s made in
     record {
       digits = digits;
       hour = hour;
-      spelled = behind-spelled (codes "at ") text rest first ∙ ap (λ x. codes "at " ++ x) (before-spelled half rest digits second);
+      spelled = after_prefix-spelled (codes "at ") text rest first ∙ ap (λ x. codes "at " ++ x) (before_suffix-spelled half rest digits second);
       read = read;
       low = leb-true 1 hour ((and_parts (nat_le 1 hour) (nat_le hour 12) got.0).0);
       high = leb-true hour 12 ((and_parts (nat_le 1 hour) (nat_le hour 12) got.0).1);
@@ -144,7 +144,7 @@ hourly-read : (digits : List ℕ) (minute : ℕ) → number_of digits ≡ Some m
 unfolding hourly_of
 hourly-read digits minute read small =
     let at : ℕ → Option Schedule = λ m. cond (nat_le m 59) (Some (daily (only m) (any kinds.Hour))) None in
-    ap (λ o. option_and_then at (option_and_then number_of o)) (behind-read (codes "every hour at minute ") digits)
+    ap (λ o. option_and_then at (option_and_then number_of o)) (after_prefix-read (codes "every hour at minute ") digits)
     ∙ ap (option_and_then at) read
     ∙ ap (λ t. cond t (Some (daily (only minute) (any kinds.Hour))) None) (le-leb minute 59 small)
 
@@ -156,8 +156,8 @@ daily-read : (half : List ℕ) (noon : ℕ) (digits : List ℕ) (hour : ℕ) →
 unfolding daily_of
 daily-read half noon digits hour read low high =
     let at : ℕ → Option Schedule = λ h. cond (nat_le 1 h && nat_le h 12) (Some (daily (only 0) (only (h % 12 + noon)))) None in
-    ap (λ o. option_and_then at (option_and_then number_of (option_and_then (before half) o))) (behind-read (codes "at ") (digits ++ half))
-    ∙ ap (λ o. option_and_then at (option_and_then number_of o)) (before-at half digits half refl)
+    ap (λ o. option_and_then at (option_and_then number_of (option_and_then (before_suffix half) o))) (after_prefix-read (codes "at ") (digits ++ half))
+    ∙ ap (λ o. option_and_then at (option_and_then number_of o)) (before_suffix-at half digits half refl)
     ∙ ap (λ t. option_and_then at (option_and_then number_of (cond t (Some digits) None))) (same_bytes half)
     ∙ ap (option_and_then at) read
     ∙ ap (λ t. cond t (Some (daily (only 0) (only (hour % 12 + noon)))) None) (and_from (nat_le 1 hour) (nat_le hour 12) (le-leb 1 hour low) (le-leb hour 12 high))
@@ -166,8 +166,8 @@ daily-none : (digits : List ℕ) → daily_of (codes "am every day") 0 (codes "a
 unfolding daily_of
 daily-none digits =
     let at : ℕ → Option Schedule = λ h. cond (nat_le 1 h && nat_le h 12) (Some (daily (only 0) (only (h % 12 + 0)))) None in
-    ap (λ o. option_and_then at (option_and_then number_of (option_and_then (before (codes "am every day")) o))) (behind-read (codes "at ") (digits ++ codes "pm every day"))
-    ∙ ap (λ o. option_and_then at (option_and_then number_of o)) (before-at (codes "am every day") digits (codes "pm every day") refl)
+    ap (λ o. option_and_then at (option_and_then number_of (option_and_then (before_suffix (codes "am every day")) o))) (after_prefix-read (codes "at ") (digits ++ codes "pm every day"))
+    ∙ ap (λ o. option_and_then at (option_and_then number_of o)) (before_suffix-at (codes "am every day") digits (codes "pm every day") refl)
 
 -- the phrases that name an hour
 abbrev at_hour : List ℕ → Option Schedule

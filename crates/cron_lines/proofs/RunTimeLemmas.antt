@@ -7,43 +7,43 @@ use Rattle.jiff_core.specs.Date.{epoch_day}
 use Rattle.jiff_core.proofs.DateLemmas.{epoch_day_injective}
 use Rattle.cron_lines.specs.declared.times.Line.{Line}
 use Rattle.cron_lines.specs.declared.times.Schedule.TheVariants.{Minutes}
-use Rattle.cron_lines.specs.Field.{is_in}
+use Rattle.cron_lines.specs.Values.{has}
 use Rattle.cron_lines.specs.RunTime.{fits_minute, fits_date, has_weekday, one_minute, one_hour, one_day, window, FitsDay, FitsLine, IsLastRunTime}
 
 -- a minute of a day
-abbrev pub moment : ℕ → ℕ → ℕ
-moment d m = d * one_day + m * one_minute
+abbrev pub minute_of : ℕ → ℕ → ℕ
+minute_of d m = d * one_day + m * one_minute
 
-moment-parts : (d m : ℕ) → m < 1440 → (moment d m % one_minute ≡ 0) × (moment d m / one_minute % 60 ≡ m % 60) × (moment d m / one_hour % 24 ≡ m / 60) × (moment d m / one_day ≡ d)
-moment-parts d m h = (omega arith, omega arith, omega arith, omega arith)
+minute_of-parts : (d m : ℕ) → m < 1440 → (minute_of d m % one_minute ≡ 0) × (minute_of d m / one_minute % 60 ≡ m % 60) × (minute_of d m / one_hour % 24 ≡ m / 60) × (minute_of d m / one_day ≡ d)
+minute_of-parts d m h = (omega arith, omega arith, omega arith, omega arith)
 
-parts-moment : (t : ℕ) → t % one_minute ≡ 0 → (t ≡ moment (t / one_day) (t % one_day / one_minute)) × (t % one_day / one_minute % 60 ≡ t / one_minute % 60) × (t % one_day / one_minute / 60 ≡ t / one_hour % 24) × (t % one_day / one_minute < 1440)
-parts-moment t h = (omega arith, omega arith, omega arith, omega arith)
+parts-minute_of : (t : ℕ) → t % one_minute ≡ 0 → (t ≡ minute_of (t / one_day) (t % one_day / one_minute)) × (t % one_day / one_minute % 60 ≡ t / one_minute % 60) × (t % one_day / one_minute / 60 ≡ t / one_hour % 24) × (t % one_day / one_minute < 1440)
+parts-minute_of t h = (omega arith, omega arith, omega arith, omega arith)
 
 -- a run time is a minute of a day
-pub record IsMoment (line : Line) (t d m : ℕ) : Type 0 where
-  pub is : t ≡ moment d m
+pub record IsMinuteOf (line : Line) (t d m : ℕ) : Type 0 where
+  pub is : t ≡ minute_of d m
   pub in_day : m < 1440
   pub day : FitsDay line d
   pub minute : IsTrue (fits_minute line m)
 
-pub IsMoment-run_time : (line : Line) (t : ℕ) → FitsLine line t → IsMoment line t (t / one_day) (t % one_day / one_minute)
-IsMoment-run_time line t fits =
-    let parts = parts-moment t fits.whole in
+pub IsMinuteOf-run_time : (line : Line) (t : ℕ) → FitsLine line t → IsMinuteOf line t (t / one_day) (t % one_day / one_minute)
+IsMinuteOf-run_time line t fits =
+    let parts = parts-minute_of t fits.whole in
     record {
       is = parts.0;
       in_day = parts.3;
       day = fits.day;
-      minute = and_from _ _ (ap (is_in line.hours) parts.2 ∙ fits.hour) (ap (is_in line.minutes) parts.1 ∙ fits.minute);
+      minute = and_from _ _ (ap (has line.hour.values) parts.2 ∙ fits.hour) (ap (has line.minute.values) parts.1 ∙ fits.minute);
     }
 
-pub FitsLine-moment : (line : Line) (d m : ℕ) → m < 1440 → FitsDay line d → IsTrue (fits_minute line m) → FitsLine line (moment d m)
-FitsLine-moment line d m short day minute =
-    let parts = moment-parts d m short in
+pub FitsLine-minute_of : (line : Line) (d m : ℕ) → m < 1440 → FitsDay line d → IsTrue (fits_minute line m) → FitsLine line (minute_of d m)
+FitsLine-minute_of line d m short day minute =
+    let parts = minute_of-parts d m short in
     record {
       whole = parts.0;
-      minute = ap (is_in line.minutes) parts.1 ∙ (and_parts (is_in line.hours (m / 60)) (is_in line.minutes (m % 60)) minute).1;
-      hour = ap (is_in line.hours) parts.2 ∙ (and_parts (is_in line.hours (m / 60)) (is_in line.minutes (m % 60)) minute).0;
+      minute = ap (has line.minute.values) parts.1 ∙ (and_parts (has line.hour.values (m / 60)) (has line.minute.values (m % 60)) minute).1;
+      hour = ap (has line.hour.values) parts.2 ∙ (and_parts (has line.hour.values (m / 60)) (has line.minute.values (m % 60)) minute).0;
       day = let P : ℕ → Type 0 = λ n. FitsDay line n in subst P (sym parts.3) day;
     }
 
@@ -55,17 +55,17 @@ NoneToday line now =
     (k : ℕ) → 0 ≤ k → k < now % one_day / one_minute + 1 → ¬ (FitsDay line (now / one_day) × IsTrue (fits_minute line k))
 
 -- the day of now, and its minutes up to now
-today_at : (now t d m : ℕ) → t ≡ moment d m → m < 1440 → t ≤ now → now / one_day ≤ d → (d ≡ now / one_day) × (m < now % one_day / one_minute + 1)
+today_at : (now t d m : ℕ) → t ≡ minute_of d m → m < 1440 → t ≤ now → now / one_day ≤ d → (d ≡ now / one_day) × (m < now % one_day / one_minute + 1)
 today_at now t d m is short reached late = (omega arith, omega arith)
 
-pub last_today : (line : Line) (now m : ℕ) → m < now % one_day / one_minute + 1 → FitsDay line (now / one_day) → IsTrue (fits_minute line m) → ((k : ℕ) → m < k → k < now % one_day / one_minute + 1 → ¬ (FitsDay line (now / one_day) × IsTrue (fits_minute line k))) → IsLastRunTime (Minutes line) now (moment (now / one_day) m)
+pub last_today : (line : Line) (now m : ℕ) → m < now % one_day / one_minute + 1 → FitsDay line (now / one_day) → IsTrue (fits_minute line m) → ((k : ℕ) → m < k → k < now % one_day / one_minute + 1 → ¬ (FitsDay line (now / one_day) × IsTrue (fits_minute line k))) → IsLastRunTime (Minutes line) now (minute_of (now / one_day) m)
 last_today line now m high day minute none = record {
-  due = FitsLine-moment line (now / one_day) m (omega arith) day minute;
+  due = FitsLine-minute_of line (now / one_day) m (omega arith) day minute;
   reached = omega arith;
   recent = omega arith;
-  greatest = λ other due reached. elim (cases_lt (moment (now / one_day) m) other) [
+  greatest = λ other due reached. elim (cases_lt (minute_of (now / one_day) m) other) [
     | inl above ↦
-        let p = IsMoment-run_time line other due in
+        let p = IsMinuteOf-run_time line other due in
         let at = today_at now other (other / one_day) (other % one_day / one_minute) p.is p.in_day reached (omega arith) in
         let P : ℕ → Type 0 = λ n. FitsDay line n in
         absurd (none (other % one_day / one_minute) (omega arith) at.1 (subst P at.0 p.day, p.minute))
@@ -79,18 +79,18 @@ before_today line now t none due reached =
     elim (cases_lt (t / one_day) (now / one_day)) [
       | inl before ↦ before
       | inr late ↦
-          let p = IsMoment-run_time line t due in
+          let p = IsMinuteOf-run_time line t due in
           let at = today_at now t (t / one_day) (t % one_day / one_minute) p.is p.in_day reached late in
           let P : ℕ → Type 0 = λ n. FitsDay line n in
           absurd (none (t % one_day / one_minute) (omega arith) at.1 (subst P at.0 p.day, p.minute))
     ]
 
 -- the last minute of the last day that fits is at least as late
-earlier_day : (line : Line) (now d m : ℕ) → NoneToday line now → ((k : ℕ) → d < k → k < now / one_day → ¬ FitsDay line k) → ((k : ℕ) → m < k → k < 1440 → ¬ IsTrue (fits_minute line k)) → (t : ℕ) → FitsLine line t → t ≤ now → t ≤ moment d m
+earlier_day : (line : Line) (now d m : ℕ) → NoneToday line now → ((k : ℕ) → d < k → k < now / one_day → ¬ FitsDay line k) → ((k : ℕ) → m < k → k < 1440 → ¬ IsTrue (fits_minute line k)) → (t : ℕ) → FitsLine line t → t ≤ now → t ≤ minute_of d m
 earlier_day line now d m none no_day no_minute t due reached =
-    let p = IsMoment-run_time line t due in
+    let p = IsMinuteOf-run_time line t due in
     let before = before_today line now t none due reached in
-    elim (cases_lt (moment d m) t) [
+    elim (cases_lt (minute_of d m) t) [
       | inl above ↦
           elim (cases_lt d (t / one_day)) [
             | inl later ↦ absurd (no_day (t / one_day) later before p.day)
@@ -99,21 +99,21 @@ earlier_day line now d m none no_day no_minute t due reached =
       | inr below ↦ below
     ]
 
-pub last_earlier : (line : Line) (now d m : ℕ) → NoneToday line now → d < now / one_day → m < 1440 → FitsDay line d → IsTrue (fits_minute line m) → ((k : ℕ) → d < k → k < now / one_day → ¬ FitsDay line k) → ((k : ℕ) → m < k → k < 1440 → ¬ IsTrue (fits_minute line k)) → now < moment d m + window → IsLastRunTime (Minutes line) now (moment d m)
+pub last_earlier : (line : Line) (now d m : ℕ) → NoneToday line now → d < now / one_day → m < 1440 → FitsDay line d → IsTrue (fits_minute line m) → ((k : ℕ) → d < k → k < now / one_day → ¬ FitsDay line k) → ((k : ℕ) → m < k → k < 1440 → ¬ IsTrue (fits_minute line k)) → now < minute_of d m + window → IsLastRunTime (Minutes line) now (minute_of d m)
 last_earlier line now d m none before short day minute no_day no_minute recent = record {
-  due = FitsLine-moment line d m short day minute;
+  due = FitsLine-minute_of line d m short day minute;
   reached = omega arith;
   recent = recent;
   greatest = earlier_day line now d m none no_day no_minute;
 }
 
-pub none_recent : (line : Line) (now d m : ℕ) → NoneToday line now → ((k : ℕ) → d < k → k < now / one_day → ¬ FitsDay line k) → ((k : ℕ) → m < k → k < 1440 → ¬ IsTrue (fits_minute line k)) → moment d m + window ≤ now → (t : ℕ) → FitsLine line t → t ≤ now → t + window ≤ now
+pub none_recent : (line : Line) (now d m : ℕ) → NoneToday line now → ((k : ℕ) → d < k → k < now / one_day → ¬ FitsDay line k) → ((k : ℕ) → m < k → k < 1440 → ¬ IsTrue (fits_minute line k)) → minute_of d m + window ≤ now → (t : ℕ) → FitsLine line t → t ≤ now → t + window ≤ now
 none_recent line now d m none no_day no_minute old t due reached =
-    let below : t ≤ moment d m = earlier_day line now d m none no_day no_minute t due reached in omega arith
+    let below : t ≤ minute_of d m = earlier_day line now d m none no_day no_minute t due reached in omega arith
 
 pub none_on_days : (line : Line) (now : ℕ) → NoneToday line now → ((k : ℕ) → now / one_day - 2922 ≤ k → k < now / one_day → ¬ FitsDay line k) → (t : ℕ) → FitsLine line t → t ≤ now → t + window ≤ now
 none_on_days line now none no_day t due reached =
-    let p = IsMoment-run_time line t due in
+    let p = IsMinuteOf-run_time line t due in
     let before = before_today line now t none due reached in
     elim (cases_lt (t / one_day) (now / one_day - 2922)) [
       | inl old ↦ omega (arith, p.is, p.in_day)
@@ -122,15 +122,15 @@ none_on_days line now none no_day t due reached =
 
 pub none_in_day : (line : Line) → ((k : ℕ) → 0 ≤ k → k < 1440 → ¬ IsTrue (fits_minute line k)) → (t : ℕ) → ¬ FitsLine line t
 none_in_day line none t due =
-    let p = IsMoment-run_time line t due in none _ (omega arith) p.in_day p.minute
+    let p = IsMinuteOf-run_time line t due in none _ (omega arith) p.in_day p.minute
 
 -- a date fits by its month, its day and its day number alone
 fits_parts : Line → ℕ → ℕ → ℤ → Bool
 fits_parts line month day number =
-    is_in line.months month
-    && (if line.either_day
-    then is_in line.days day || has_weekday line.weekdays (weekday_number number)
-    else is_in line.days day && has_weekday line.weekdays (weekday_number number))
+    has line.month.values month
+    && (if line.day.restricted && line.weekday.restricted
+    then has line.day.values day || has_weekday line.weekday (weekday_number number)
+    else has line.day.values day && has_weekday line.weekday (weekday_number number))
 
 fits_date-parts : (line : Line) (date : Date) → fits_date line date ≡ fits_parts line date.month date.day (epoch_day date)
 unfolding fits_parts

@@ -1,4 +1,4 @@
--- What is read as an item is spelled as one, and the other way round.
+-- What is read as an item or a field is spelled as one, and the other way round.
 use Rattle.std.proofs.Common.{◌≡◌, ℕ, ◌+◌, ◌-◌, ◌<◌, Bool, true, false, not, cond, ◌&&◌, ◌==◌, nat_lt, nat_le, List, [], ◌∷◌, ◌++◌, length, take, drop, get_or, codes, slice_index, Option, Some, None, option_map, option_and_then, ap, sym, refl, subst, ◌∙◌, lit<, arith, length-append}
 use Rattle.std.specs.List.{slice_split, list_all, position_or_len, before_first, after_first}
 use Rattle.std.specs.Char.{to_ascii_lowercase}
@@ -16,8 +16,8 @@ use Rattle.cron_lines.specs.declared.fields.Item.{Item}
 use Rattle.cron_lines.specs.declared.fields.FieldKind.{FieldKind}
 use Rattle.cron_lines.specs.declared.fields.FieldKind.TheVariants.{Minute, Hour, Day, Month, Weekday}
 use Rattle.cron_lines.specs.Field.{digit_of, number_of, place_from, name_of, month_names, weekday_names, value_or_name, value_of, cut, between, range_of, plain, item_from, item_of, all_of, items_of, some_holds, field_of, field_with}
-use Rattle.cron_lines.proofs.FieldLemmas.{values_where-at}
-use Rattle.cron_lines.specs.Spelling.{HoldsItems, FieldsHoldItems, IsRange, star, interval, IsItem, whole, single, every_nth, ItemsAreSpelled}
+use Rattle.cron_lines.proofs.ValuesLemmas.{has-values_where}
+use Rattle.cron_lines.specs.Spelling.{HoldsItems, FieldsHoldItems, IsRange, star, interval, IsItem, whole, single, every_nth, ItemsAreSpelled, AreItems, no_items, one_item, IsField, of_items, FieldsAreSpelled}
 
 -- ---- a value has no `*`, `-` or `/`: each of its bytes is 48 or more
 
@@ -161,13 +161,13 @@ range-spelled kind text item h = at_star (bytes_eq text (codes "*")) refl h
         let got : all_of kind ≡ item = cc in
         subst P (sym ((bytes_eq-Decides text (codes "*")).0 same)) (subst Q got star)
     at_star false same e =
-        option_and_then_some (between kind) (cut 45 text) item e (λ ends parted read.
+        option_and_then_some (between kind) (cut 45 text) item e (λ ends found read.
         let P : List ℕ → Type 0 = λ t. IsRange kind t item in
-        subst P (sym (cut-spelled 45 text ends parted)) (between-spelled kind ends item read))
+        subst P (sym (cut-spelled 45 text ends found)) (between-spelled kind ends item read))
 
 item-spelled : (kind : FieldKind) (text : List ℕ) (item : Item) → item_of kind text ≡ Some item → IsItem kind text item
 unfolding item_of
-item-spelled kind text item h = parted (cut 47 text) refl h
+item-spelled kind text item h = by_slash (cut 47 text) refl h
   where
     uncut : (o : Option Item) → range_of kind text ≡ o → plain kind text o ≡ Some item → IsItem kind text item
     uncut (Some found) e h = whole (range-spelled kind text item (e ∙ h))
@@ -177,9 +177,9 @@ item-spelled kind text item h = parted (cut 47 text) refl h
         let got : record { first = value; last = value; step = 1 } ≡ item = cc in
         subst P got (single read))
 
-    parted : (o : Option (List ℕ × List ℕ)) → cut 47 text ≡ o → item_from kind text o ≡ Some item → IsItem kind text item
-    parted None e h = uncut (range_of kind text) refl h
-    parted (Some parts) e h =
+    by_slash : (o : Option (List ℕ × List ℕ)) → cut 47 text ≡ o → item_from kind text o ≡ Some item → IsItem kind text item
+    by_slash None e h = uncut (range_of kind text) refl h
+    by_slash (Some parts) e h =
         option_and_then_some _ (range_of kind parts.0) item h (λ found read_range rest.
         option_and_then_some _ (number_of parts.1) item rest (λ step read_step made.
         let got = cond_some (nat_le 1 step) (record found { step = step }) item made in
@@ -236,15 +236,54 @@ item-read kind text item (single {value = value} h) =
     ap (item_from kind text) (cut-none 47 text (value-free 47 (lit< tt) kind text value h))
     ∙ ap (plain kind text) (value-no_range kind text value h)
     ∙ ap (option_and_then only_one) h
-item-read kind text item (every_nth front count found step h read some) =
+item-read kind text item (every_nth range count found step h read some) =
     let every : Item → ℕ → Option Item = λ i n. cond (nat_le 1 n) (Some (record i { step = n })) None in
-    ap (item_from kind (front ++ 47 ∷ count)) (cut-at 47 front count (range-free kind front found h))
-    ∙ ap (option_and_then (λ i. option_and_then (every i) (number_of count))) (range-read kind front found h)
+    ap (item_from kind (range ++ 47 ∷ count)) (cut-at 47 range count (range-free kind range found h))
+    ∙ ap (option_and_then (λ i. option_and_then (every i) (number_of count))) (range-read kind range found h)
     ∙ ap (option_and_then (every found)) read
     ∙ ap (λ t. cond t (Some (record found { step = step })) None) (le-leb 1 step some)
 
 pub items_are_spelled : ItemsAreSpelled
 items_are_spelled kind text item = (item-spelled kind text item, item-read kind text item)
+
+-- ---- items one by one, and the field that they make
+
+items-spelled : (kind : FieldKind) (texts : List (List ℕ)) (items : List Item) → items_of kind texts ≡ Some items → AreItems kind texts items
+items-spelled kind [] items h =
+    let P : List Item → Type 0 = λ is. AreItems kind [] is in
+    let got : [] ≡ items = cc in
+    subst P got no_items
+items-spelled kind (text ∷ texts) items h =
+    option_and_then_some _ (item_of kind text) items h (λ item read rest.
+    option_and_then_some _ (items_of kind texts) items rest (λ others read_others made.
+    let P : List Item → Type 0 = λ is. AreItems kind (text ∷ texts) is in
+    let got : item ∷ others ≡ items = cc in
+    subst P got (one_item (item-spelled kind text item read) (items-spelled kind texts others read_others))))
+
+items-read : (kind : FieldKind) (texts : List (List ℕ)) (items : List Item) → AreItems kind texts items → items_of kind texts ≡ Some items
+items-read kind texts items no_items = refl
+items-read kind texts items (one_item {text = text} {item = item} {texts = rest} {items = others} first more) =
+    ap (option_and_then (λ i. option_and_then (λ is. Some (i ∷ is)) (items_of kind rest))) (item-read kind text item first)
+    ∙ ap (option_and_then (λ is. Some (item ∷ is))) (items-read kind rest others more)
+
+field-spelled : (kind : FieldKind) (text : List ℕ) (field : Field) → field_of kind text ≡ Some field → IsField kind text field
+unfolding field_of
+field-spelled kind text field h = read (items_of kind (slice_split (λ b. b == 44) text)) refl h
+  where
+    read : (o : Option (List Item)) → items_of kind (slice_split (λ b. b == 44) text) ≡ o → option_map (field_with (not (slice_index text 0 == 42))) o ≡ Some field → IsField kind text field
+    read None e h = absurd (none-some field h)
+    read (Some items) e h =
+        let P : Field → Type 0 = λ f. IsField kind text f in
+        let same : field_with (not (slice_index text 0 == 42)) items ≡ field = cc in
+        subst P same (of_items (items-spelled kind (slice_split (λ b. b == 44) text) items e))
+
+field-read : (kind : FieldKind) (text : List ℕ) (field : Field) → IsField kind text field → field_of kind text ≡ Some field
+unfolding field_of
+field-read kind text field (of_items {items = items} are) =
+    ap (option_map (field_with (not (slice_index text 0 == 42)))) (items-read kind (slice_split (λ b. b == 44) text) items are)
+
+pub fields_are_spelled : FieldsAreSpelled
+fields_are_spelled kind text field = (field-spelled kind text field, field-read kind text field)
 
 pub fields_hold_items : FieldsHoldItems
 unfolding field_of
@@ -258,6 +297,6 @@ fields_hold_items kind text field h = read (items_of kind (slice_split (λ b. b 
         subst P same (record {
           items = items;
           are_items = e;
-          values = values_where-at (some_holds items);
+          values = has-values_where (some_holds items);
           restricted = refl;
         })

@@ -1,20 +1,16 @@
 -- A field of a cron line: which values are in it, and the grammar that spells it.
-use Rattle.std.specs.Prelude.{ℕ, ◌+◌, ◌-◌, ◌*◌, ◌%◌, ◌^◌, zero, suc, Bool, not, ◌&&◌, ◌==◌, nat_lt, nat_le, if◌then◌else◌, List, [], ◌∷◌, length, codes, Option, Some, None, option_and_then, option_map, slice_index}
+use Rattle.std.specs.Prelude.{ℕ, ◌+◌, ◌-◌, ◌*◌, ◌%◌, Bool, not, ◌&&◌, ◌==◌, nat_lt, nat_le, if◌then◌else◌, List, [], ◌∷◌, length, codes, Option, Some, None, option_and_then, option_map, slice_index}
 use Rattle.std.specs.List.{list_any, position_or_len, before_first, after_first, slice_split}
-use Rattle.std.specs.Int.{bit_at}
 use Rattle.std.specs.Str.{bytes_eq, str_eq_ignore_ascii_case}
 use Rattle.cron_lines.specs.declared.fields.Field.{Field}
 use Rattle.cron_lines.specs.declared.fields.Item.{Item}
 use Rattle.cron_lines.specs.declared.fields.FieldKind.{FieldKind}
 use Rattle.cron_lines.specs.declared.fields.FieldKind.TheVariants.{Minute, Hour, Day, Month, Weekday}
+use Rattle.cron_lines.specs.Values.{values_where}
 
 infixl 10 ◌>>=◌
 abbrev pub ◌>>=◌ : {A B : Type 0} → Option A → (A → Option B) → Option B
 o >>= f = option_and_then f o
-
--- whether a value is in a set, which is a number: its bit v stands for the value v
-unfoldable pub is_in : ℕ → ℕ → Bool
-is_in values value = bit_at values value == 1
 
 -- the least value that may be written
 abbrev pub least : FieldKind → ℕ
@@ -88,7 +84,7 @@ cut mark text =
     then Some (before_first (λ b. b == mark) text, after_first (λ b. b == mark) text)
     else None
 
--- `A-B`, parted at the first `-`
+-- `A-B`, cut at the first `-`
 abbrev pub between : FieldKind → List ℕ × List ℕ → Option Item
 between kind ends =
     value_of kind ends.0 >>= λ first. value_of kind ends.1 >>= λ last.
@@ -106,7 +102,7 @@ plain kind text (Some range) = Some range
 plain kind text None =
     value_of kind text >>= λ value. Some (record { first = value; last = value; step = 1 })
 
--- `*/N` or `A-B/N`, parted at the first `/`
+-- `*/N` or `A-B/N`, cut at the first `/`
 abbrev pub stepped : FieldKind → List ℕ × List ℕ → Option Item
 stepped kind parts =
     range_of kind parts.0 >>= λ range. number_of parts.1 >>= λ step.
@@ -130,15 +126,6 @@ items_of kind [] = Some []
 items_of kind (text ∷ texts) =
     item_of kind text >>= λ item. items_of kind texts >>= λ items. Some (item ∷ items)
 
--- the set of the values below n that pass a test
-unfoldable pub values_below : (ℕ → Bool) → ℕ → ℕ
-values_below test zero = 0
-values_below test (suc n) = (if test n then 1 else 0) * 2 ^ n + values_below test n
-
--- of all values that there are
-abbrev pub values_where : (ℕ → Bool) → ℕ
-values_where test = values_below test 60
-
 -- whether a value is one of some item's
 abbrev pub some_holds : List Item → ℕ → Bool
 some_holds items value = list_any (λ item. holds item value) items
@@ -148,7 +135,7 @@ abbrev pub field_with : Bool → List Item → Field
 field_with restricted items =
     record { values = values_where (some_holds items); restricted = restricted }
 
--- items parted by commas: a field, restricted where it doesn't begin with `*`
+-- items separated by commas: a field, restricted where it doesn't begin with `*`
 unfoldable pub field_of : FieldKind → List ℕ → Option Field
 field_of kind text =
     option_map (field_with (not (slice_index text 0 == 42)))

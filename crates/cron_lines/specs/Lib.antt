@@ -1,7 +1,7 @@
 pub mod Field
-pub mod Line
 pub mod Phrase
 pub mod RunTime
 pub mod Spelling
 pub mod Text
+pub mod Values
 pub mod Words

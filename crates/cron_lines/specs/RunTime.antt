@@ -1,11 +1,13 @@
 -- The times at which a schedule is due, in microseconds since 1970 in UTC.
-use Rattle.std.specs.Prelude.{◌≡◌, ℕ, ◌+◌, ◌*◌, ◌/◌, ◌%◌, ◌<◌, ◌≤◌, Bool, ◌&&◌, ◌||◌, ◌==◌, if◌then◌else◌, IsTrue, Option, Some, None, pos}
+use Rattle.std.specs.Prelude.{◌≡◌, ℕ, ◌+◌, ◌*◌, ◌/◌, ◌%◌, ◌<◌, ◌≤◌, Bool, ◌&&◌, ◌||◌, ◌==◌, if◌then◌else◌, IsTrue, Option, Some, None, pos, ◌*ℤ◌}
 use Rattle.jiff_core.specs.declared.civil.date.Date.{Date}
 use Rattle.jiff_core.specs.Date.{epoch_day, weekday_of}
+use Rattle.job_states.specs.Moment.{last_moment}
+use Rattle.cron_lines.specs.declared.fields.Field.{Field}
 use Rattle.cron_lines.specs.declared.times.Line.{Line}
 use Rattle.cron_lines.specs.declared.times.Schedule.{Schedule}
 use Rattle.cron_lines.specs.declared.times.Schedule.TheVariants.{EverySecond, Minutes}
-use Rattle.cron_lines.specs.Field.{is_in}
+use Rattle.cron_lines.specs.Values.{has}
 
 abbrev pub one_second : ℕ
 one_second = 1_000_000
@@ -23,17 +25,23 @@ one_day = 86_400_000_000
 abbrev pub window : ℕ
 window = 2922 * one_day
 
--- whether a day of the week, as many days after Monday, is in the set: Monday is 1, and Sunday 7 or 0
-abbrev pub has_weekday : ℕ → ℕ → Bool
-has_weekday weekdays weekday = is_in weekdays (weekday + 1) || ((weekday == 6) && is_in weekdays 0)
+-- the day after the last moment is 1 January 9999
+abbrev pub MomentsEndWithADay : Type 0
+MomentsEndWithADay =
+    (date : Date) → date.year ≡ pos 9999 → date.month ≡ 1 → date.day ≡ 1
+    → epoch_day date *ℤ pos one_day ≡ pos (last_moment + 1)
 
--- whether a date fits
+-- whether a field has a day of the week, as many days after Monday: Monday is 1, and Sunday 7 or 0
+abbrev pub has_weekday : Field → ℕ → Bool
+has_weekday field weekday = has field.values (weekday + 1) || ((weekday == 6) && has field.values 0)
+
+-- whether a date fits: where day and weekday are both restricted, a day that fits one of them is enough
 abbrev pub fits_date : Line → Date → Bool
 fits_date line date =
-    is_in line.months date.month
-    && (if line.either_day
-    then is_in line.days date.day || has_weekday line.weekdays (weekday_of date)
-    else is_in line.days date.day && has_weekday line.weekdays (weekday_of date))
+    has line.month.values date.month
+    && (if line.day.restricted && line.weekday.restricted
+    then has line.day.values date.day || has_weekday line.weekday (weekday_of date)
+    else has line.day.values date.day && has_weekday line.weekday (weekday_of date))
 
 -- the date of that day fits
 pub record FitsDay (line : Line) (day : ℕ) : Type 0 where
@@ -44,8 +52,8 @@ pub record FitsDay (line : Line) (day : ℕ) : Type 0 where
 -- a whole minute whose minute, hour and date fit
 pub record FitsLine (line : Line) (t : ℕ) : Type 0 where
   pub whole : t % one_minute ≡ 0
-  pub minute : IsTrue (is_in line.minutes (t / one_minute % 60))
-  pub hour : IsTrue (is_in line.hours (t / one_hour % 24))
+  pub minute : IsTrue (has line.minute.values (t / one_minute % 60))
+  pub hour : IsTrue (has line.hour.values (t / one_hour % 24))
   pub day : FitsDay line (t / one_day)
 
 -- the greatest number from low up to end, end not included, of which P holds
@@ -56,7 +64,7 @@ LastOf P low end (Some n) =
 
 -- whether a minute of the day fits
 abbrev pub fits_minute : Line → ℕ → Bool
-fits_minute line m = is_in line.hours (m / 60) && is_in line.minutes (m % 60)
+fits_minute line m = has line.hour.values (m / 60) && has line.minute.values (m % 60)
 
 -- the schedule is due at t
 abbrev pub IsRunTime : Schedule → ℕ → Type 0

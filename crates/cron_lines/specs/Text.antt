@@ -1,6 +1,7 @@
 -- Which texts are schedules, which schedule each is, and where each other text is refused.
 use Rattle.std.specs.Prelude.{ℕ, Bool, false, ◌||◌, if◌then◌else◌, List, [], ◌∷◌, length, codes, Option, Some, None, Result, Ok, Err}
 use Rattle.std.specs.Str.{bytes_eq}
+use Rattle.job_states.specs.Judged.{◌>>=◌}
 use Rattle.cron_lines.specs.declared.fields.Field.{Field}
 use Rattle.cron_lines.specs.declared.fields.FieldKind.{FieldKind}
 use Rattle.cron_lines.specs.declared.fields.FieldKind.TheVariants as kinds
@@ -9,15 +10,10 @@ use Rattle.cron_lines.specs.declared.times.Schedule.TheVariants.{Minutes}
 use Rattle.cron_lines.specs.declared.times.ScheduleFault.{ScheduleFault}
 use Rattle.cron_lines.specs.declared.times.ScheduleFault.TheVariants.{Refused}
 use Rattle.cron_lines.specs.Field.{field_of}
-use Rattle.cron_lines.specs.Line.{line_of}
 use Rattle.cron_lines.specs.Phrase.{phrase_of}
-use Rattle.cron_lines.specs.Words.{Word, words_from}
+use Rattle.cron_lines.specs.Words.{Word, words_of}
 
-infixl 10 ◌>>=◌
-abbrev pub ◌>>=◌ : {A B : Type 0} → Result A ScheduleFault → (A → Result B ScheduleFault) → Result B ScheduleFault
-(Ok x) >>= f = f x
-(Err e) >>= f = Err e
-
+-- what there is, or the refusal at this place
 abbrev pub refused_unless : {A : Type 0} → ℕ → Option A → Result A ScheduleFault
 refused_unless at (Some x) = Ok x
 refused_unless at None = Err (Refused at)
@@ -41,7 +37,7 @@ read_line end words = do
   day ← next_field kinds.Day end hour.1
   month ← next_field kinds.Month end day.1
   weekday ← next_field kinds.Weekday end month.1
-  if_last weekday.1 (Minutes (line_of minute.0 hour.0 day.0 month.0 weekday.0))
+  if_last weekday.1 (Minutes (record { minute = minute.0; hour = hour.0; day = day.0; month = month.0; weekday = weekday.0 }))
 
 -- whether the first word is one that phrases begin with
 abbrev pub begins_phrase : List Word → Bool
@@ -52,6 +48,5 @@ begins_phrase (word ∷ words) =
 -- a phrase is refused at 0, and has no blanks round it
 abbrev pub schedule_of : List ℕ → Result Schedule ScheduleFault
 schedule_of text =
-    let words = words_from false 0 text in
-    if begins_phrase words then refused_unless 0 (phrase_of text)
-    else read_line (length text) words
+    if begins_phrase (words_of text) then refused_unless 0 (phrase_of text)
+    else read_line (length text) (words_of text)

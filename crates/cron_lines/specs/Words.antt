@@ -1,25 +1,29 @@
--- The words of a text: what spaces and tabs part.
-use Rattle.std.specs.Prelude.{ℕ, ◌+◌, Bool, true, false, ◌||◌, ◌==◌, if◌then◌else◌, List, [], ◌∷◌}
-use Rattle.std.specs.List.{before_first}
+-- The words of a text: what spaces and tabs separate.
+use Rattle.std.specs.Prelude.{ℕ, ◌-◌, Bool, not, ◌&&◌, ◌||◌, ◌==◌, List, map, filter, length, drop, slice_index}
+use Rattle.std.specs.List.{before_first, range_with_len}
 
 -- a space or a tab
 abbrev pub is_blank : ℕ → Bool
 is_blank c = (c == 32) || (c == 9)
 
--- the bytes before the first blank
-abbrev pub front_word : List ℕ → List ℕ
-front_word text = before_first is_blank text
+-- a word begins at each byte that is no blank and stands first or after a blank
+abbrev pub begins_word : List ℕ → ℕ → Bool
+begins_word text at =
+    not (is_blank (slice_index text at)) && ((at == 0) || is_blank (slice_index text (at - 1)))
 
 -- a word: the place of its first byte in the text, and its bytes
 pub record Word : Type 0 where
   pub at : ℕ
   pub bytes : List ℕ
 
--- the words that begin in the bytes from a place on: one at each byte that is no blank, unless a word
--- goes on there
-abbrev pub words_from : Bool → ℕ → List ℕ → List Word
-words_from goes_on at [] = []
-words_from goes_on at (c ∷ cs) =
-    if is_blank c then words_from false (at + 1) cs
-    else (if goes_on then words_from true (at + 1) cs
-    else record { at = at; bytes = front_word (c ∷ cs) } ∷ words_from true (at + 1) cs)
+-- its bytes go on up to the next blank
+abbrev pub word_at : List ℕ → ℕ → Word
+word_at text at = record { at = at; bytes = before_first is_blank (drop at text) }
+
+-- the words that begin at a place or after it
+unfoldable pub words_from : List ℕ → ℕ → List Word
+words_from text from =
+    map (word_at text) (filter (begins_word text) (range_with_len from (length text - from)))
+
+abbrev pub words_of : List ℕ → List Word
+words_of text = words_from text 0

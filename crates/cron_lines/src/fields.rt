@@ -1,11 +1,10 @@
-ghost use Rattle.std.specs.Prelude.{◌≡◌, ◌<◌, ◌≤◌, ◌+◌, ◌^◌, ◌==◌, ◌||◌, ◌∷◌, [], length, false, option_map, IfSome, MatchOption};
+ghost use Rattle.std.specs.Prelude.{◌≡◌, ◌<◌, ◌≤◌, ◌+◌, ◌==◌, ◌∷◌, [], length, option_map, IfSome, MatchOption};
 ghost use Rattle.std.specs.List.{position, slice_split};
 ghost use Rattle.std.specs.Str.{str_eq_ignore_ascii_case};
-ghost use Rattle.cron_lines.specs.Field.{holds, is_in, values_where, number_of, digit_of, cut, place_from};
-ghost use Rattle.cron_lines.specs.Spelling.{FieldsHoldItems, ItemsAreSpelled};
+ghost use Rattle.cron_lines.specs.Field.{number_of, digit_of, cut, place_from};
+ghost use Rattle.cron_lines.specs.Spelling.{FieldsAreSpelled, FieldsHoldItems, ItemsAreSpelled};
 
-/// A field's values are less than this.
-const VALUES: u8 = 60;
+use crate::values::Values;
 
 const MONTHS: [[u8; 3]; 12] = [
     *b"jan", *b"feb", *b"mar", *b"apr", *b"may", *b"jun", *b"jul", *b"aug", *b"sep", *b"oct",
@@ -17,7 +16,7 @@ const WEEKDAYS: [[u8; 3]; 7] = [
 ];
 
 /// Which field of a cron line.
-#[derive(Clone, Copy, Debug, PartialEq, Eq)]
+#[derive(Clone, Copy)]
 pub(crate) enum FieldKind {
     Minute,
     Hour,
@@ -27,18 +26,18 @@ pub(crate) enum FieldKind {
 }
 
 /// Every `step`-th value from `first` to `last`.
-#[derive(Clone, Copy, Debug, PartialEq, Eq)]
+#[derive(Clone, Copy)]
 pub(crate) struct Item {
     pub first: u8,
     pub last: u8,
     pub step: u8,
 }
 
-/// A field of a cron line, with a bit for each of its values: bit 0 for the value 0.
-#[derive(Clone, Copy, Debug, PartialEq, Eq)]
-pub(crate) struct Field {
-    pub values: u64,
-    /// Whether it is written without a leading `*`.
+/// A field of a cron line.
+#[derive(Drop)]
+pub struct Field {
+    pub values: Values,
+    /// Is it written without a leading `*`?
     pub restricted: bool,
 }
 
@@ -64,8 +63,11 @@ impl FieldKind {
     pub(crate) fn all(self) -> Item
         ensures { result ≡ all_of self }
     {
-        let (first, last) = self.bounds();
-        let last = if self == FieldKind::Weekday { 6 } else { last };
+        let (first, greatest) = self.bounds();
+        let last = match self {
+            FieldKind::Weekday => 6,
+            _ => greatest,
+        };
         Item {
             first,
             last,
@@ -140,7 +142,8 @@ impl FieldKind {
 impl Item {
     ghost use Rattle.cron_lines.specs.Field.{holds};
 
-    fn holds(self, value: u8) -> bool
+    /// Is the value one of its values?
+    pub(crate) fn holds(self, value: u8) -> bool
         requires { 1 ≤ self.step }
         ensures { result ≡ holds self value }
     {
@@ -149,57 +152,35 @@ impl Item {
 }
 
 impl Field {
-    ghost use Rattle.cron_lines.specs.Field.{holds, values_where, field_of, field_with};
+    ghost use Rattle.cron_lines.specs.Field.{field_of, field_with};
 
     /// The field of one item.
     pub(crate) fn of(item: Item, restricted: bool) -> Field
         requires { 1 ≤ item.step }
         ensures { result ≡ field_with restricted (item ∷ []) }
     {
-        let values = with(0, item);
-        Field { values, restricted }
+        Field {
+            values: Values::none().with(item),
+            restricted,
+        }
     }
 
-    /// Items parted by commas.
+    /// Items separated by commas.
     #[tactic(auto, unfolding(crate::specs::Field::field_of))]
     pub(crate) fn parse(kind: FieldKind, text: &[u8]) -> Option<Field>
         ensures { result ≡ field_of kind text.now }
     {
-        let mut values = 0;
+        let mut values = Values::none();
         let mut left = text;
         while let Some((part, rest)) = cut(left, b',') {
-            values = with(values, kind.item(part)?);
+            values = values.with(kind.item(part)?);
             left = rest;
         }
-        values = with(values, kind.item(left)?);
         Some(Field {
-            values,
+            values: values.with(kind.item(left)?),
             restricted: !text.starts_with(b"*"),
         })
     }
-}
-
-/// Whether a value is in a set.
-pub(crate) fn is_in(values: u64, value: u8) -> bool
-    requires { value < 60 }
-    ensures { result ≡ is_in values value }
-{
-    values >> value & 1 == 1
-}
-
-/// The values and those of an item.
-fn with(values: u64, item: Item) -> u64
-    requires step { 1 ≤ item.step }
-    requires values { values < 2 ^ 60 }
-    ensures { result ≡ values_where (λ value. is_in values value || holds item value) }
-{
-    let mut all = values;
-    for value in 0..VALUES {
-        if item.holds(value) {
-            all |= 1 << value;
-        }
-    }
-    all
 }
 
 fn digit(byte: u8) -> Option<u8>
@@ -265,6 +246,11 @@ fn place(names: &[[u8; 3]], text: &[u8], first: u8) -> Option<u8>
 /// A field's items are read just as they are spelled: `*`, `*/N`, `A`, `A-B` or `A-B/N`.
 pub fn items_are_spelled()
     ensures { ItemsAreSpelled }
+{}
+
+/// Fields are read just as they are spelled: items separated by commas.
+pub fn fields_are_spelled()
+    ensures { FieldsAreSpelled }
 {}
 
 /// A field has the values that its items have.

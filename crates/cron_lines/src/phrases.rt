@@ -27,13 +27,13 @@ fn only(value: u8) -> Field
 fn daily(minute: Field, hour: Field) -> Schedule
     ensures { result ≡ daily minute hour }
 {
-    Schedule::Minutes(Line::new(
+    Schedule::Minutes(Line {
         minute,
         hour,
-        any(FieldKind::Day),
-        any(FieldKind::Month),
-        any(FieldKind::Weekday),
-    ))
+        day: any(FieldKind::Day),
+        month: any(FieldKind::Month),
+        weekday: any(FieldKind::Weekday),
+    })
 }
 
 /// `every hour at minute M`.

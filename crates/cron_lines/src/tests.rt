@@ -1,4 +1,5 @@
-use crate::{LAST_MOMENT, Schedule, ScheduleFault};
+use crate::{Schedule, ScheduleFault};
+use job_states::LAST;
 use std::process::Abort;
 
 fn read(rt: &impl Abort, text: &str) -> Schedule {
@@ -77,7 +78,7 @@ fn last_run_times(rt: HostRuntime) {
     ];
     for (text, now, last) in cases {
         let schedule = read(&rt, text);
-        assert!(rt; now <= LAST_MOMENT);
+        assert!(rt; now <= LAST);
         assert_eq!(rt; schedule.last_at_or_before(now), last, "{text} at {now}");
     }
 }
@@ -117,8 +118,8 @@ fn places_of_refusals(rt: HostRuntime) {
     ];
     for (text, at) in cases {
         assert_eq!(rt;
-            Schedule::parse(text),
-            Err(ScheduleFault::Refused { at }),
+            Schedule::parse(text).err(),
+            Some(ScheduleFault::Refused { at }),
             "{text}"
         );
     }

@@ -1,8 +1,12 @@
 ghost use Rattle.std.specs.Prelude.{◌≡◌, ℕ, ◌≤◌, ◌+◌, ◌↔◌, IfSome, IfNone, IsTrue};
+ghost use Rattle.job_states.specs.Moment.{IsMoment};
+ghost use Rattle.cron_lines.specs.RunTime.{MomentsEndWithADay};
 
-use crate::fields::{Field, is_in};
+use crate::fields::Field;
 use crate::parse;
 use jiff_core::civil::Date;
+use job_states::Moment;
+use thiserror::Error;
 
 /// In microseconds, as all moments.
 const SECOND: u64 = 1_000_000;
@@ -11,37 +15,30 @@ const MINUTE: u64 = 60 * SECOND;
 
 const DAY: u64 = 1440 * MINUTE;
 
-/// The last day of the calendar, 9999-12-31, as days since 1970-01-01.
-const LAST_DAY: u64 = 2_932_896;
-
-/// The last moment that schedules are asked about: the end of the year 9998.
-pub const LAST_MOMENT: u64 = 253_370_764_799_999_999;
-
 /// How far back a run time is looked for, in days: eight years.
 const WINDOW_DAYS: u64 = 2922;
 
 /// Why a text is no schedule.
-#[derive(Clone, Copy, Debug, PartialEq, Eq)]
+#[derive(Clone, Copy, Debug, PartialEq, Eq, Error)]
 pub enum ScheduleFault {
     /// The first byte of the first field or phrase that is not allowed.
+    #[error("no schedule: byte {at}")]
     Refused { at: usize },
 }
 
-/// A cron line in UTC. Each set of values has a bit for each value that is in it: bit 0 for the value 0.
-#[derive(Clone, Copy, Debug, PartialEq, Eq)]
+/// A cron line in UTC.
+#[derive(Drop)]
 pub struct Line {
-    pub minutes: u64,
-    pub hours: u64,
-    pub days: u64,
-    pub months: u64,
+    pub minute: Field,
+    pub hour: Field,
+    pub day: Field,
+    pub month: Field,
     /// Sunday is 0 or 7.
-    pub weekdays: u64,
-    /// Whether a day that fits one of `days` and `weekdays` is enough.
-    pub either_day: bool,
+    pub weekday: Field,
 }
 
 /// When a task is due.
-#[derive(Clone, Copy, Debug, PartialEq, Eq)]
+#[derive(Drop)]
 pub enum Schedule {
     /// At each whole second.
     EverySecond,
@@ -50,40 +47,26 @@ pub enum Schedule {
 }
 
 impl Line {
-    ghost use Rattle.cron_lines.specs.Line.{line_of};
     ghost use Rattle.cron_lines.specs.RunTime.{fits_date, fits_minute, window, FitsDay, FitsLine, IsLastRunTime, LastOf};
-
-    pub(crate) fn new(minute: Field, hour: Field, day: Field, month: Field, weekday: Field) -> Line
-        ensures { result ≡ line_of minute hour day month weekday }
-    {
-        Line {
-            minutes: minute.values,
-            hours: hour.values,
-            days: day.values,
-            months: month.values,
-            weekdays: weekday.values,
-            either_day: day.restricted && weekday.restricted,
-        }
-    }
 
     fn fits_date(&self, date: Date) -> bool
         ensures { result ≡ fits_date self.now date }
     {
         let weekday = date.weekday().index();
-        let on_weekday = is_in(self.weekdays, weekday + 1)
-            || weekday == 6 && is_in(self.weekdays, 0);
-        let on_day = is_in(self.days, date.day);
-        let fits = if self.either_day {
+        let on_weekday = self.weekday.values.has(weekday + 1)
+            || weekday == 6 && self.weekday.values.has(0);
+        let on_day = self.day.values.has(date.day);
+        let fits = if self.day.restricted && self.weekday.restricted {
             on_day || on_weekday
         } else {
             on_day && on_weekday
         };
-        is_in(self.months, date.month) && fits
+        self.month.values.has(date.month) && fits
     }
 
-    /// Whether the day that many days after 1970-01-01 fits.
+    /// Does the day that many days after 1970-01-01 fit?
     fn fits_day(&self, day: u64) -> bool
-        requires { day ≤ LAST_DAY }
+        requires { day ≤ 2_932_896 }
         ensures { IsTrue result ↔ FitsDay self.now day }
     {
         match Date::from_unix_epoch_day(day as i64) {
@@ -98,7 +81,9 @@ impl Line {
         ensures { LastOf (λ m. IsTrue (fits_minute self.now m)) 0 end result }
     {
         for minute in (0..end).rev() {
-            if is_in(self.hours, (minute / 60) as u8) && is_in(self.minutes, (minute % 60) as u8) {
+            if self.hour.values.has((minute / 60) as u8)
+                && self.minute.values.has((minute % 60) as u8)
+            {
                 return Some(minute);
             }
         }
@@ -107,7 +92,7 @@ impl Line {
 
     /// The last day that fits, of those from `first` on and before `end`.
     fn last_day(&self, first: u64, end: u64) -> Option<u64>
-        requires { end ≤ LAST_DAY }
+        requires { end ≤ 2_932_896 }
         ensures { LastOf (FitsDay self.now) first end result }
     {
         for day in (first..end).rev() {
@@ -120,7 +105,7 @@ impl Line {
 
     /// The last minute that fits, of those of the day before `end`.
     fn last_minute_on(&self, day: u64, end: u64) -> Option<u64>
-        requires day { day ≤ LAST_DAY }
+        requires day { day ≤ 2_932_896 }
         requires end { end ≤ 1440 }
         ensures { LastOf (λ m. FitsDay self.now day × IsTrue (fits_minute self.now m)) 0 end result }
     {
@@ -131,8 +116,8 @@ impl Line {
     }
 
     /// As `Schedule::last_at_or_before`: the last day that fits, and the last minute that fits in it.
-    fn last_at_or_before(&self, now: u64) -> Option<u64>
-        requires { now ≤ LAST_MOMENT }
+    fn last_at_or_before(&self, now: Moment) -> Option<Moment>
+        requires { IsMoment now }
         ensures found { IfSome result (IsLastRunTime (Schedule.Minutes self.now) now) }
         ensures none { IfNone result
             ((t : ℕ) → FitsLine self.now t → t ≤ now → t + window ≤ now) }
@@ -155,7 +140,7 @@ impl Schedule {
     ghost use Rattle.cron_lines.specs.Text.{schedule_of};
     ghost use Rattle.cron_lines.specs.RunTime.{window, IsRunTime, IsLastRunTime};
 
-    /// Reads five fields parted by spaces and tabs, as in crontab(5), or a phrase.
+    /// Reads five fields separated by spaces and tabs, as in crontab(5), or a phrase.
     pub fn parse(text: &str) -> Result<Schedule, ScheduleFault>
         ensures { result ≡ schedule_of text.now }
     {
@@ -164,8 +149,8 @@ impl Schedule {
 
     /// The greatest run time that is at most `now` and less than 2922 days before it, if there is one.
     /// Times are microseconds since 1970.
-    pub fn last_at_or_before(&self, now: u64) -> Option<u64>
-        requires { now ≤ LAST_MOMENT }
+    pub fn last_at_or_before(&self, now: Moment) -> Option<Moment>
+        requires { IsMoment now }
         ensures found { IfSome result (IsLastRunTime self.now now) }
         ensures none { IfNone result
             ((t : ℕ) → IsRunTime self.now t → t ≤ now → t + window ≤ now) }
@@ -176,3 +161,8 @@ impl Schedule {
         }
     }
 }
+
+/// The year 9999 begins right after the last moment.
+pub fn moments_end_with_a_day()
+    ensures { MomentsEndWithADay }
+{}
