@@ -1,5 +1,5 @@
 -- The semaphore of a concurrency key: what takes and returns its permits.
-use Rattle.std.specs.Prelude.{◌≡◌, ◌==◌, ℕ, ◌+◌, ◌-◌, ◌<◌, ◌≤◌, Option, None, Some, if◌then◌else◌}
+use Rattle.std.specs.Prelude.{◌==◌, ℕ, ◌+◌, ◌-◌, ◌≤◌, Bool, false, min, nat_le, Option, None, Some, if◌then◌else◌}
 
 pub record Semaphore : Type 0 where
   pub generation : ℕ
@@ -13,27 +13,22 @@ abbrev pub semaphore : (generation limit free expires : ℕ) → Semaphore
 semaphore generation limit free expires = record { generation = generation; limit = limit; free = free; expires = expires }
 
 -- it has a permit, and no more are free than there are
-pub record IsSound (s : Semaphore) : Type 0 where
+pub record IsSoundSemaphore (s : Semaphore) : Type 0 where
   pub some_permit : 1 ≤ s.limit
   pub within_limit : s.free ≤ s.limit
 
--- a key without a semaphore is open, and so is one with a free permit
-abbrev pub IsOpen : Option Semaphore → Type 0
-IsOpen None = Unit {0}
-IsOpen (Some s) = 0 < s.free
-
 -- a semaphore stands, and no permit is free
-abbrev pub IsClosed : Option Semaphore → Type 0
-IsClosed None = ⊥
-IsClosed (Some s) = s.free ≡ 0
+abbrev pub is_closed : Option Semaphore → Bool
+is_closed None = false
+is_closed (Some s) = s.free == 0
 
 -- a semaphore of this generation stands
-abbrev pub IsOfGeneration : Option Semaphore → ℕ → Type 0
-IsOfGeneration None generation = ⊥
-IsOfGeneration (Some s) generation = s.generation ≡ generation
+abbrev pub is_of_generation : Option Semaphore → ℕ → Bool
+is_of_generation None generation = false
+is_of_generation (Some s) generation = s.generation == generation
 
-abbrev pub IsExpired : Semaphore → ℕ → Type 0
-IsExpired s now = s.expires ≤ now
+abbrev pub is_expired : Semaphore → (now : ℕ) → Bool
+is_expired s now = nat_le s.expires now
 
 -- What the key has once a permit is taken; none where it is closed. A standing semaphore keeps its generation and its
 -- limit, and a key without one gets a new one.
@@ -41,6 +36,9 @@ abbrev pub taken : Option Semaphore → (fresh limit expires : ℕ) → Option S
 taken None fresh limit expires = Some (semaphore fresh limit (limit - 1) expires)
 taken (Some s) fresh limit expires = if s.free == 0 then None else Some (record s { free = s.free - 1; expires = expires })
 
--- what stands after a permit came back
-abbrev pub given : Semaphore → (expires : ℕ) → Semaphore
-given s expires = record s { free = s.free + 1; expires = expires }
+-- What the key has once a job gave back what it held. Only a permit of the standing generation counts: one more is free,
+-- at most the limit.
+abbrev pub given_back : Option Semaphore → (permit : Option ℕ) → (expires : ℕ) → Option Semaphore
+given_back None permit expires = None
+given_back (Some s) None expires = Some s
+given_back (Some s) (Some generation) expires = if s.generation == generation then Some (record s { free = min (s.free + 1) s.limit; expires = expires }) else Some s

@@ -7,4 +7,4 @@ mod sem;
 #[cfg(test)]
 mod tests;
 
-pub use sem::{Sem, expired, give, gives, take};
+pub use sem::{Sem, expired, give, give_back, gives, is_closed, take};

@@ -1,44 +1,29 @@
 use crate::*;
-use job_states::LAST;
 
 const THREE_MINUTES: u64 = 180_000_000;
 
 #[test]
-fn a_permit_of_an_expired_semaphore_does_not_come_back(rt: HostRuntime) {
-    let first = take(None, 1, 1, THREE_MINUTES, 0);
-    let sem = Sem {
-        generation: 1,
-        limit: 1,
-        free: 0,
-        expires: THREE_MINUTES,
-    };
-    assert_eq!(rt; first, Some(sem));
-    assert_eq!(rt; take(first, 2, 1, THREE_MINUTES, 1), None);
-    assert!(rt; !expired(&sem, THREE_MINUTES - 1));
-    assert!(rt; expired(&sem, THREE_MINUTES));
+fn a_key_is_taken_given_back_and_taken_anew(rt: HostRuntime) {
+    let closed = Sem::of(1, 1, 0, THREE_MINUTES);
+    assert_eq!(rt; take(None, 1, 1, THREE_MINUTES, 0), closed);
+    assert!(rt; is_closed(&closed));
+    assert!(rt; !is_closed(&None));
+    assert_eq!(rt; take(closed, 2, 1, THREE_MINUTES, 1), None);
 
-    let second = take(None, 2, 1, THREE_MINUTES, THREE_MINUTES);
-    assert!(rt; !gives(&second, 1));
-    assert!(rt; gives(&second, 2));
-    assert!(rt; !gives(&None, 2));
-}
+    let open = Sem::of(1, 1, 1, THREE_MINUTES + 5);
+    assert_eq!(rt; give_back(closed, Some(1), THREE_MINUTES, 5), open);
+    assert_eq!(rt; give_back(closed, Some(2), THREE_MINUTES, 5), closed);
+    assert_eq!(rt; give_back(closed, None, THREE_MINUTES, 5), closed);
+    assert_eq!(rt; closed.map(|sem| give(sem, THREE_MINUTES, 5)), open);
+    assert_eq!(rt; take(open, 2, 9, THREE_MINUTES, 0), closed);
 
-#[test]
-fn a_permit_that_comes_back_renews_the_expiry(rt: HostRuntime) {
-    let sem = Sem {
-        generation: 7,
-        limit: 3,
-        free: 2,
-        expires: 5,
-    };
-    let full = Sem {
-        free: 3,
-        expires: LAST,
-        ..sem
-    };
-    assert_eq!(rt; give(sem, 10, LAST - 1), full);
+    assert!(rt; gives(&closed, 1));
+    assert!(rt; !gives(&closed, 2));
     assert_eq!(rt;
-        take(Some(full), 8, 1, 0, 6),
-        Some(Sem { expires: 6, ..sem })
+        closed.map(|sem| expired(&sem, THREE_MINUTES - 1)),
+        Some(false)
     );
+    assert_eq!(rt; closed.map(|sem| expired(&sem, THREE_MINUTES)), Some(true));
+    assert_eq!(rt; Sem::of(1, 0, 0, 0), None);
+    assert_eq!(rt; Sem::of(1, 1, 2, 0), None);
 }
