@@ -1,3 +1,4 @@
 pub mod Fault
 pub mod Groups
 pub mod Items
+pub mod Places

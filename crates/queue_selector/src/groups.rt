@@ -1,16 +1,23 @@
-//! Places of names in a list of them.
-ghost use Rattle.std.specs.Prelude.{◌≡◌, ◌↔◌, ◌<◌, ◌++◌, List, ◌∷◌, [], length, map, filter, not, position, All, IsTrue, IfOk, OnOk, codes};
-ghost use Rattle.job_states.specs.Length.{IsName};
-ghost use Rattle.queue_selector.specs.Groups.{groups_of, is_among, is_star, name_at, names_at, unpaused_names, selected, selects};
+//! Places of names in a sorted list of them.
+ghost use Rattle.std.specs.Prelude.{◌≡◌, ◌≤◌, ◌&&◌, ◌++◌, ◌∷◌, [], ℕ, List, length, map, filter, if◌then◌else◌, position, slice_range, Some, IfOk, OnOk};
+ghost use Rattle.std.specs.List.{list_any};
+ghost use Rattle.job_states.specs.Texts.{is_among};
+ghost use Rattle.queue_selector.specs.Groups as groups;
+ghost use Rattle.queue_selector.specs.Groups.{AreSorted, count_in, count_of, groups_of, is_polled, is_star};
+ghost use Rattle.queue_selector.specs.Places.{is_left, names_at, prefix_of};
 
 use job_states::{Name, NoMemory, Text};
 use std::alloc::Global;
+use std::ops::Range;
 
-pub fn has_item_length(item: &Text) -> bool
-    ensures { IsTrue result ↔ IsName item.now }
-{
-    !item.is_empty() && item.len() <= Name::MAX_LEN
-}
+/// A name that isn't paused and that an item selects stands in a list's groups as often as it was given, and any other one
+/// never. So of sorted names it stands there once.
+pub fn polled_once()
+    ensures as_often { (items names paused : List (List ℕ)) (name : List ℕ) →
+        count_in name (groups_of items names paused) ≡ (if is_polled items paused name then count_of name names else 0) }
+    ensures once { (items names paused : List (List ℕ)) (name : List ℕ) → AreSorted names →
+        count_in name (groups_of items names paused) ≡ (if is_among names name && is_polled items paused name then 1 else 0) }
+{}
 
 // The groups, as places.
 pub fn poll_groups(
@@ -19,94 +26,98 @@ pub fn poll_groups(
     names: &[Name],
     paused: &[Name],
 ) -> Result<Vec<Vec<u64>>, NoMemory>
-    ensures places { IfOk result (λ groups. All (λ group. All (λ place. place < length names.now) group.items) groups.items) }
-    ensures groups { IfOk result (λ groups. map (λ group. names_at names.now group.items) groups.items ≡ groups_of items.now names.now paused.now) }
+    requires names { AreSorted names.now }
+    requires paused { AreSorted paused.now }
+    ensures { IfOk result (λ places. map (λ group. names_at names.now group.items) places.items ≡ map (map Some) (groups_of items.now names.now paused.now)) }
 {
-    let unpaused = unpaused_places(alloc, names, paused)?;
+    let mut places = Vec::new(alloc);
     if polls_all(items) {
-        return Ok(vec![in alloc; unpaused]?);
+        add_left(&items[..0], names, paused, 0..names.len(), &mut places)?;
+        return Ok(vec![in alloc; places]?);
     }
-    groups_of_one(alloc, &selected_places(alloc, items, names, unpaused)?)
+    for (index, item) in items.iter().enumerate() {
+        let run = selected_run(item.as_bytes(), names);
+        add_left(&items[..index], names, paused, run, &mut places)?;
+    }
+    groups_of_one(alloc, &places)
 }
 
 // Is an item a star alone?
-fn polls_all(items: &[Text]) -> bool
-    ensures { result ≡ is_among items.now (codes "*") }
+pub fn polls_all(items: &[Text]) -> bool
+    ensures { result ≡ groups.polls_all items.now }
 {
     items.iter().any(|item| item.as_bytes() == b"*".as_slice())
 }
 
-// The places of the names that aren't paused.
-fn unpaused_places(alloc: Global, names: &[Name], paused: &[Name]) -> Result<Vec<u64>, NoMemory>
-    ensures within { IfOk result (λ places. All (λ place. place < length names.now) places.items) }
-    ensures unpaused { IfOk result (λ places. names_at names.now places.items ≡ unpaused_names names.now paused.now) }
+// Adds the places of the run's names that no earlier item selects and that aren't paused.
+fn add_left(
+    earlier: &[Text],
+    names: &[Name],
+    paused: &[Name],
+    run: Range<usize>,
+    places: &mut Vec<u64>,
+) -> Result<(), NoMemory>
+    requires in_order { run.start ≤ run.end }
+    requires within { run.end ≤ length names.now }
+    requires paused { AreSorted paused.now }
+    ensures { OnOk result (names_at names.now places.new.items ≡ names_at names.now places.old.items ++ map Some (filter (is_left earlier.now paused.now) (slice_range names.now run.start run.end))) }
 {
-    let mut places = Vec::new(alloc);
-    for (place, name) in names.iter().enumerate() {
-        if !paused.contains(name) {
+    for place in run.start..run.end {
+        if is_left(earlier, paused, &names[place]) {
             places.push(place as u64)?;
         }
     }
-    Ok(places)
+    Ok(())
 }
 
-// The places, among those of unpaused names, of the names that the items select in turn.
-fn selected_places(
-    alloc: Global,
-    items: &[Text],
-    names: &[Name],
-    mut unpaused: Vec<u64>,
-) -> Result<Vec<u64>, NoMemory>
-    requires { All (λ place. place < length names.now) unpaused.items }
-    ensures within { IfOk result (λ chosen. All (λ place. place < length names.now) chosen.items) }
-    ensures chosen { IfOk result (λ chosen. names_at names.now chosen.items ≡ selected items.now (names_at names.now unpaused.items)) }
+fn is_left(earlier: &[Text], paused: &[Name], name: &Name) -> bool
+    requires { AreSorted paused.now }
+    ensures { result ≡ is_left earlier.now paused.now name.now }
 {
-    let mut chosen = Vec::new(alloc);
-    for item in items {
-        unpaused = take_selected(alloc, item.as_bytes(), names, &unpaused, &mut chosen)?;
-    }
-    Ok(chosen)
+    !is_selected(earlier, name.as_bytes()) && !is_paused(paused, name)
 }
 
-// Puts the places of the names that the item selects behind those chosen, and gives the others back.
-fn take_selected(
-    alloc: Global,
-    item: &[u8],
-    names: &[Name],
-    places: &[u64],
-    chosen: &mut Vec<u64>,
-) -> Result<Vec<u64>, NoMemory>
-    requires places_within { All (λ place. place < length names.now) places.now }
-    requires chosen_within { All (λ place. place < length names.now) chosen.old.items }
-    ensures left_within { IfOk result (λ left. All (λ place. place < length names.now) left.items) }
-    ensures within { OnOk result (All (λ place. place < length names.now) chosen.new.items) }
-    ensures left { IfOk result (λ left. names_at names.now left.items ≡ filter (λ name. not (selects item.now name)) (names_at names.now places.now)) }
-    ensures chosen { OnOk result (names_at names.now chosen.new.items ≡ names_at names.now chosen.old.items ++ filter (selects item.now) (names_at names.now places.now)) }
+fn is_paused(paused: &[Name], name: &Name) -> bool
+    requires { AreSorted paused.now }
+    ensures { result ≡ is_among paused.now name.now }
 {
-    let mut left = Vec::new(alloc);
-    for place in places {
-        if selects_at(item, names, *place) {
-            chosen.push(*place)?;
-        } else {
-            left.push(*place)?;
-        }
-    }
-    Ok(left)
+    paused.binary_search(name).is_ok()
 }
 
-fn selects_at(item: &[u8], names: &[Name], place: u64) -> bool
-    requires { place < length names.now }
-    ensures { result ≡ selects item.now (name_at names.now place) }
+fn is_selected(items: &[Text], name: &[u8]) -> bool
+    ensures { result ≡ list_any (λ item. groups.selects item name.now) items.now }
 {
-    selects_name(item, names[place as usize].as_bytes())
+    items.iter().any(|item| selects(item.as_bytes(), name))
 }
 
-fn selects_name(item: &[u8], name: &[u8]) -> bool
-    ensures { result ≡ selects item.now name.now }
+// The places of the names that the item selects: equal names and names with one prefix stand side by side.
+fn selected_run(item: &[u8], names: &[Name]) -> Range<usize>
+    requires { AreSorted names.now }
+    ensures in_order { result.start ≤ result.end }
+    ensures within { result.end ≤ length names.now }
+    ensures run { slice_range names.now result.start result.end ≡ filter (groups.selects item.now) names.now }
+{
+    let prefix = prefix_of(item);
+    let start = names.partition_point(|name| name.as_bytes().cmp(prefix).is_lt());
+    let count = names[start..].partition_point(|name| selects(item, name.as_bytes()));
+    start..start + count
+}
+
+fn selects(item: &[u8], name: &[u8]) -> bool
+    ensures { result ≡ groups.selects item.now name.now }
 {
     match star_place(item) {
         None => item == name,
         Some(place) => place + 1 == item.len() && name.starts_with(&item[..place]),
+    }
+}
+
+fn prefix_of(item: &[u8]) -> &[u8]
+    ensures { result.now ≡ prefix_of item.now }
+{
+    match star_place(item) {
+        None => item,
+        Some(place) => &item[..place],
     }
 }
 

@@ -8,4 +8,5 @@ mod list;
 #[cfg(test)]
 mod tests;
 
+pub use groups::polled_once;
 pub use list::{ListFault, QueueList};

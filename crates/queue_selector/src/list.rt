@@ -1,11 +1,12 @@
-use crate::groups::{has_item_length, poll_groups};
+use crate::groups::{poll_groups, polls_all};
 use job_states::{List, Name, NoMemory, Text};
 use std::alloc::{AllocError, Global};
 use std::marker::Model;
+use thiserror::Error;
 
 /// The queues that a worker polls: 1 to 64 items of 1 to 128 bytes. An item is the name of a queue, a prefix of names
-/// with a `*` behind it, or `*` alone for all queues.
-#[derive(Debug, PartialEq, Eq, Drop)]
+/// with a `*` after it, or `*` alone for all queues.
+#[derive(Drop)]
 pub struct QueueList(List<Text>);
 
 impl Model for QueueList {
@@ -17,18 +18,19 @@ impl Model for QueueList {
     ghost view = { λ l. l.0 };
 
     ghost invariant = { λ l. IsQueueList l.0 };
-
-    ghost inverse = { λ items. record { 0 = items } };
 }
 
 /// Why items are no queue list.
-#[derive(Clone, Copy, Debug, PartialEq, Eq)]
+#[derive(Debug, Drop, Error)]
 pub enum ListFault {
     /// There is no item, or there are more than 64: this many.
+    #[error("a queue list has 1 to 64 items, and not {n}")]
     Count { n: usize },
     /// The item at this place is the first that is empty or has more than 128 bytes.
+    #[error("the item at place {index} of the queue list is empty or has more than 128 bytes")]
     Item { index: usize },
     /// There was no memory for it.
+    #[error("out of memory")]
     NoMemory,
 }
 
@@ -43,31 +45,69 @@ impl From<AllocError> for ListFault {
     }
 }
 
-impl QueueList {
-    ghost use Rattle.std.specs.Prelude.{◌≡◌, ℕ, ◌<◌, ◌≤◌, List, All, length, map, IfOk, IfErr, if◌then◌else◌};
-    ghost use Rattle.std.specs.List.Sorted.{IsStrictlySortedBy};
-    ghost use Rattle.std.specs.Ordering.{nat_cmp};
-    ghost use Rattle.std.specs.Cmp.Lexicographic.{slice_cmp};
+impl ListFault {
+    ghost use Rattle.std.specs.Prelude.{◌↔◌, IfSome, IsNone, IsTrue};
+    ghost use Rattle.job_states.specs.Length.{IsName};
     ghost use Rattle.queue_selector.specs.Items.{IsQueueList};
     ghost use Rattle.queue_selector.specs.Fault.{IsListFault};
-    ghost use Rattle.queue_selector.specs.Groups.{count_of, groups_of, is_polled, members, names_at};
+
+    fn first(items: &[Text]) -> Option<Self>
+        ensures none { IsNone result ↔ IsQueueList items.now }
+        ensures fault { IfSome result (IsListFault items.now) }
+    {
+        if items.is_empty() || items.len() > QueueList::MAX_ITEMS {
+            return Some(ListFault::Count { n: items.len() });
+        }
+        let index = items.iter().position(|item| !ListFault::is_item(item))?;
+        Some(ListFault::Item { index })
+    }
+
+    fn is_item(item: &Text) -> bool
+        ensures { IsTrue result ↔ IsName item.now }
+    {
+        !item.is_empty() && item.len() <= Name::MAX_LEN
+    }
+}
+
+impl QueueList {
+    ghost use Rattle.std.specs.Prelude.{◌≡◌, map, Some, slice_get, IfOk, IfErr};
+    ghost use Rattle.queue_selector.specs.Items.{IsQueueList};
+    ghost use Rattle.queue_selector.specs.Fault.{IsListFault};
+    ghost use Rattle.queue_selector.specs.Groups.{AreSorted, groups_of};
+    ghost use Rattle.queue_selector.specs.Groups as groups;
 
     /// The greatest number of items.
     pub const MAX_ITEMS: usize = 64;
 
-    /// The list of these items.
+    /// The list of a copy of these items.
     pub fn parse(alloc: Global, items: &[Text]) -> Result<Self, ListFault>
         ensures same { IfOk result (λ list. list ≡ items.now) }
         ensures list { IfOk result IsQueueList }
         ensures fault { IfErr result (IsListFault items.now) }
     {
-        if items.is_empty() || items.len() > QueueList::MAX_ITEMS {
-            return Err(ListFault::Count { n: items.len() });
+        match ListFault::first(items) {
+            Some(fault) => Err(fault),
+            None => Ok(QueueList(List::of(Vec::from_clones(alloc, items)?))),
         }
-        if let Some(index) = items.iter().position(|item| !has_item_length(item)) {
-            return Err(ListFault::Item { index });
+    }
+
+    /// The list of these items. It takes no memory.
+    pub fn of(items: List<Text>) -> Result<Self, ListFault>
+        ensures accepted { IsQueueList items → result ≡ Ok items }
+        ensures list { IfOk result IsQueueList }
+        ensures fault { IfErr result (IsListFault items) }
+    {
+        match ListFault::first(items.as_slice()) {
+            Some(fault) => Err(fault),
+            None => Ok(QueueList(items)),
         }
-        Ok(QueueList(List::of(Vec::from_clones(alloc, items)?)))
+    }
+
+    /// Is an item `*` alone? All queues are then one group.
+    pub fn polls_all(&self) -> bool
+        ensures { result ≡ groups.polls_all self.now }
+    {
+        polls_all(self.0.as_slice())
     }
 
     /// The groups in which the queues of these names are polled, each as places in `names`, without the paused ones.
@@ -77,14 +117,11 @@ impl QueueList {
         names: &[Name],
         paused: &[Name],
     ) -> Result<Vec<Vec<u64>>, NoMemory>
-        requires { IsStrictlySortedBy (slice_cmp nat_cmp) names.now }
-        ensures places { IfOk result (λ groups. All (λ group. All (λ place. place < length names.now) group.items) groups.items) }
-        ensures groups { IfOk result (λ groups. map (λ group. names_at names.now group.items) groups.items ≡ groups_of self.now names.now paused.now) }
-        // A name that isn't paused and that an item selects stands in the groups once, any other one never.
-        ensures polled { IfOk result (λ groups. (name : List ℕ) →
-            count_of name (members (map (λ group. names_at names.now group.items) groups.items))
-            ≡ (if is_polled self.now paused.now name then count_of name names.now else 0)) }
-        ensures once { (name : List ℕ) → count_of name names.now ≤ 1 }
+        requires names { AreSorted names.now }
+        requires paused { AreSorted paused.now }
+        // At the places of the groups stand the names of the list's groups.
+        ensures { IfOk result (λ places. map (λ group. map (slice_get names.now) group.items) places.items
+            ≡ map (map Some) (groups_of self.now names.now paused.now)) }
     {
         poll_groups(alloc, self.0.as_slice(), names, paused)
     }

@@ -1,23 +1,21 @@
 ghost use Rattle.std.specs.Prelude.{IfOk};
-ghost use Rattle.std.specs.List.Sorted.{IsStrictlySortedBy};
-ghost use Rattle.std.specs.Ordering.{nat_cmp};
-ghost use Rattle.std.specs.Cmp.Lexicographic.{slice_cmp};
+ghost use Rattle.queue_selector.specs.Groups.{AreSorted};
 
 use crate::*;
-use job_states::{Name, Text};
+use job_states::{List, Name, Text};
 use std::alloc::Global;
 use std::test::Fail;
 
 fn texts(alloc: Global, words: &str) -> Result<Vec<Text>, Fail> {
     let mut texts = Vec::new(alloc);
-    for word in words.split_whitespace() {
+    for word in words.split(' ') {
         texts.push(Text::read(alloc, word)?)?;
     }
     Ok(texts)
 }
 
 fn names(alloc: Global, words: &str) -> Result<Vec<Name>, Fail>
-    ensures { IfOk result (λ names. IsStrictlySortedBy (slice_cmp nat_cmp) names.items) }
+    ensures { IfOk result (λ names. AreSorted names.items) }
 {
     let mut names = Vec::new(alloc);
     for word in words.split_whitespace() {
@@ -42,7 +40,7 @@ fn queues_are_grouped_in_the_order_of_the_list(rt: HostRuntime) -> Result<(), Fa
         ("b*d ** back** *end back", "", "[]"),
     ];
     for (items, paused, groups) in table {
-        let list = QueueList::parse(alloc, &texts(alloc, items)?)?;
+        let list = QueueList::of(List::of(texts(alloc, items)?))?;
         let found = list.groups(alloc, &queues, &names(alloc, paused)?)?;
         assert_eq!(rt; format!(in alloc; "{found:?}")?.as_str(), groups, "{items}");
     }
@@ -54,23 +52,26 @@ fn lists_have_1_to_64_items_of_1_to_128_bytes(rt: HostRuntime) -> Result<(), Fai
     let alloc = rt.alloc();
     let long = "é".repeat(alloc, 64)?;
     let longer = "x".repeat(alloc, 129)?;
-    let most = "q ".repeat(alloc, 64)?;
-    let more = "q ".repeat(alloc, 65)?;
+    let most = "q ".repeat(alloc, 63)?;
+    let more = "q ".repeat(alloc, 64)?;
     let table = [
-        ("", Some(ListFault::Count { n: 0 })),
-        (more.as_str(), Some(ListFault::Count { n: 65 })),
-        (most.as_str(), None),
-        (long.as_str(), None),
-        (longer.as_str(), Some(ListFault::Item { index: 0 })),
+        (long.as_str(), "accepted"),
+        (
+            most.as_str(),
+            "the item at place 63 of the queue list is empty or has more than 128 bytes",
+        ),
+        (
+            longer.as_str(),
+            "the item at place 0 of the queue list is empty or has more than 128 bytes",
+        ),
+        (more.as_str(), "a queue list has 1 to 64 items, and not 65"),
     ];
-    for (items, fault) in table {
-        assert_eq!(rt; QueueList::parse(alloc, &texts(alloc, items)?).err(), fault);
+    for (items, answer) in table {
+        let said = match QueueList::parse(alloc, &texts(alloc, items)?) {
+            Ok(_) => String::from_str(alloc, "accepted")?,
+            Err(fault) => format!(in alloc; "{fault}")?,
+        };
+        assert_eq!(rt; said.as_str(), answer, "{items}");
     }
-    let mut items = texts(alloc, "q")?;
-    items.push(Text::read(alloc, "")?)?;
-    assert_eq!(rt;
-        QueueList::parse(alloc, &items),
-        Err(ListFault::Item { index: 1 })
-    );
     Ok(())
 }
