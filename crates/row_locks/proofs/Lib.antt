@@ -1,7 +1,7 @@
-pub mod Lookups
-pub mod Maps
+pub mod Against
+pub mod Holders
 pub mod Membership
 pub mod Orders
 pub mod Refusals
-pub mod Rows
+pub mod SeatLocks
 pub mod Takings

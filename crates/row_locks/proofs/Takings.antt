@@ -7,7 +7,8 @@ use Rattle.std.proofs.lemmas.List.Sorted.{Contains-permutation, IsPermutation-ap
 use Rattle.job_states.specs.declared.row.Row.{Row}
 use Rattle.job_states.specs.declared.row.Mode.{Mode}
 use Rattle.job_states.specs.declared.row.Mode.TheVariants.{Alone, Shared}
-use Rattle.row_locks.specs.Locks.{AreExclusive, AreFree, Fits, Holds, Lock, lock, locks_of}
+use Rattle.row_locks.specs.Footprints.{AreCompatible, FitTogether}
+use Rattle.row_locks.specs.Locks.{AreExclusive, AreFree, Holds, HoldsAll, Lock, TakesRows, lock, locks_of}
 use Rattle.row_locks.proofs.Membership.{Contains-filter, Contains-from_filter, Contains-from_map, Contains-map}
 
 -- a seat holds by a taking what it took
@@ -19,18 +20,18 @@ holds_taken seat rows by row mode held =
     let from = Contains-from_map (λ r. lock seat r.0 r.1) rows (lock by row mode) held in
     (sym (ap (λ l. l.seat) from.2), subst (λ r. Contains rows r) (ap (λ l. (l.row, l.mode)) from.2) from.1)
 
-fits_or_not : (m n : Mode) → Fits m n ⊎ ¬ Fits m n
+fits_or_not : (m n : Mode) → FitTogether m n ⊎ ¬ FitTogether m n
 fits_or_not Shared Shared = inl tt
 fits_or_not Shared Alone = inr (λ fits. fits)
 fits_or_not Alone n = inr (λ fits. fits)
 
-Fits-sym : (m n : Mode) → Fits m n → Fits n m
-Fits-sym Shared Shared fits = fits
-Fits-sym Shared Alone fits = absurd fits
-Fits-sym Alone n fits = absurd fits
+FitTogether-sym : (m n : Mode) → FitTogether m n → FitTogether n m
+FitTogether-sym Shared Shared fits = fits
+FitTogether-sym Shared Alone fits = absurd fits
+FitTogether-sym Alone n fits = absurd fits
 
 -- what a seat takes free fits with what others hold
-pub fits_free : (locks : List Lock) (seat : ℕ) (rows : List (Row × Mode)) → AreFree locks seat rows → (by : ℕ) → by ≢ seat → (row : Row) (m n : Mode) → Holds locks by row m → Contains rows (row, n) → Fits m n
+pub fits_free : (locks : List Lock) (seat : ℕ) (rows : List (Row × Mode)) → AreFree locks seat rows → (by : ℕ) → by ≢ seat → (row : Row) (m n : Mode) → Holds locks by row m → Contains rows (row, n) → FitTogether m n
 fits_free locks seat rows are_free by other row m n held asked =
     elim (fits_or_not m n) [
       | inl fits ↦ fits
@@ -65,7 +66,7 @@ exclusive_more locks new seat rows taken exclusive are_free a b row m n differ h
         | inr new_b ↦ fits_free locks seat rows are_free a (λ e. differ (e ∙ sym new_b.0)) row m n old_a new_b.1
       ]
       | inr new_a ↦ elim ((holds_more locks new seat rows taken b row n).0 held_b) [
-        | inl old_b ↦ Fits-sym n m (fits_free locks seat rows are_free b (λ e. differ (new_a.0 ∙ sym e)) row n m old_b new_a.1)
+        | inl old_b ↦ FitTogether-sym n m (fits_free locks seat rows are_free b (λ e. differ (new_a.0 ∙ sym e)) row n m old_b new_a.1)
         | inr new_b ↦ absurd (differ (new_a.0 ∙ sym new_b.0))
       ]
     ]
@@ -83,3 +84,7 @@ holds_filter seat locks by row mode =
       ),
       λ held. Contains-filter keeps locks (lock by row mode) held.0 (ap not (ne_eqb by seat held.1)),
     )
+
+-- what a seat takes goes together with what any other seat holds
+pub compatible : (locks new : List Lock) (seat : ℕ) (rows : List (Row × Mode)) → TakesRows locks new seat rows → (by : ℕ) (theirs : List (Row × Mode)) → by ≢ seat → HoldsAll locks by theirs → AreCompatible theirs rows
+compatible locks new seat rows takes by theirs other held row m n in_theirs asked = fits_free locks seat rows takes.free by other row m n (held row m in_theirs) asked

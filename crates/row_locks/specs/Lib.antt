@@ -1,4 +1,5 @@
+pub mod Asked
 pub mod Fault
-pub mod Holders
+pub mod Footprints
 pub mod Locks
-pub mod RowOrder
+pub mod Seats

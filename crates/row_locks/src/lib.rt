@@ -3,9 +3,12 @@
 //! A contract sees [`Locks`] as a list of rows, each with its mode and the seat that holds it.
 #![tactic(auto)]
 
-mod holders;
+mod held;
+mod laws;
 mod locks;
+mod seats;
 #[cfg(test)]
 mod tests;
 
+pub use laws::who_holds;
 pub use locks::{Locks, TakeFault};
