@@ -1,0 +1,13 @@
+pub mod Balances
+pub mod Besides
+pub mod Cases
+pub mod Counts
+pub mod Covered
+pub mod Fits
+pub mod Frames
+pub mod Good
+pub mod Goods
+pub mod Maps
+pub mod Runs
+pub mod Sighted
+pub mod Steps

@@ -1,0 +1,12 @@
+pub mod Chain
+pub mod Examples
+pub mod Footprints
+pub mod GoodWorld
+pub mod Held
+pub mod Histories
+pub mod Map
+pub mod Named
+pub mod Replay
+pub mod Sights
+pub mod Transitions
+pub mod World
