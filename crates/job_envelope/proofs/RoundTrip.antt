@@ -9,13 +9,13 @@ use Rattle.serde_json.specs.Read.{read}
 use Rattle.serde_json.specs.Written.{items_have_float}
 use Rattle.job_states.specs.Length.{IsName}
 use Rattle.job_states.specs.declared.command.NewJob.{NewJob}
-use Rattle.job_states.specs.declared.moment.TheConstants.{LAST}
+use Rattle.job_states.specs.Moment.{IsMoment, last_moment}
 use Rattle.job_envelope.specs.declared.member.Member.{Member}
 use Rattle.job_envelope.specs.declared.member.Member.TheVariants.{JobClass, JobId, QueueName, Priority, Executions, ScheduledAt}
 use Rattle.job_envelope.specs.Arguments.{first_args}
 use Rattle.job_envelope.specs.Envelope.{name_at, queue_at, priority_at, arguments_at, executions_at, counts_at, moment_at, job_of, envelope_of}
 use Rattle.job_envelope.specs.Kind.{name_from, priority_in, count_from, counts_of, moment_in, moment_from}
-use Rattle.job_envelope.specs.Written.{IsMomentText, IsMomentData, HasRanges, IsTold, envelope_data}
+use Rattle.job_envelope.specs.Written.{IsMomentText, IsScheduledAt, HasRanges, CanReadBack, envelope_data}
 
 name_from-IsName : (m : Member) (text : List ℕ) → IsName text → name_from m text ≡ Ok text
 name_from-IsName m text name = grind (arith, nat_tests, name.0, name.1)
@@ -27,14 +27,14 @@ priority_in-of_integer m (negsuc n) fits = grind (arith, nat_tests)
 count_from-most : (m : Member) (n : ℕ) → n ≤ 65_535 → count_from m (Some n) ≡ Ok n
 count_from-most m n most = grind (arith, nat_tests)
 
-moment_from-thousand : (moment : ℕ) → moment ≤ LAST → moment_from (pos (moment * 1000)) ≡ Some moment
+moment_from-thousand : (moment : ℕ) → IsMoment moment → moment_from (pos (moment * 1000)) ≡ Some moment
 moment_from-thousand moment last =
     let cut : moment * 1000 / 1000 ≡ moment = omega arith in
     rw cut (grind (arith, nat_tests))
 
-moment_in-written : (m : Member) (moment : ℕ) (text : List ℕ) → moment ≤ LAST → IsMomentText moment text → moment_in m (string text) ≡ Ok moment
+moment_in-written : (m : Member) (moment : ℕ) (text : List ℕ) → IsMoment moment → IsMomentText moment text → moment_in m (string text) ≡ Ok moment
 moment_in-written m moment text last is =
-    let same : min moment LAST ≡ moment = omega arith in
+    let same : min moment last_moment ≡ moment = omega arith in
     rw (is.reads, same, moment_from-thousand moment last) refl
 
 -- each member of an envelope that was written
@@ -66,7 +66,7 @@ counts_read : (job : NewJob) (args at : Data) → job.counts ≡ [] → counts_a
 unfolding counts_at counts_of
 counts_read job args at none = rw none refl
 
-moment_data_read : (moment : Option ℕ) (job : NewJob) (args at : Data) → ForSome moment (λ m. m ≤ LAST) → IsMomentData moment at → moment_at (envelope_data job args at) ≡ Ok moment
+moment_data_read : (moment : Option ℕ) (job : NewJob) (args at : Data) → ForSome moment IsMoment → IsScheduledAt moment at → moment_at (envelope_data job args at) ≡ Ok moment
 unfolding moment_at
 moment_data_read None job args at last is = rw is refl
 moment_data_read (Some moment) job args at last is = rw (is.2, moment_in-written ScheduledAt moment is.0 (last moment refl) is.1) refl
@@ -78,12 +78,12 @@ joined : (text : List ℕ) (d : Data) (job : NewJob) (items : Items) → name_at
 unfolding job_of
 joined text d job items class active_id queue priority arguments executions counts at whole = rw (class, active_id, queue, priority, arguments, executions, counts, at, whole) refl
 
-pub job_of-envelope_data : (job : NewJob) (items : Items) (at : Data) (text : List ℕ) → HasRanges job → IsTold job items text → IsMomentData job.at at
+pub job_of-envelope_data : (job : NewJob) (items : Items) (at : Data) (text : List ℕ) → HasRanges job → CanReadBack job items text → IsScheduledAt job.at at
     → job_of text (envelope_data job (array items) at) ≡ Ok (record job { envelope = text; args = first_args items })
-job_of-envelope_data job items at text ranges told moment =
+job_of-envelope_data job items at text ranges can moment =
     joined text (envelope_data job (array items) at) job items (class_read job (array items) at ranges.class) (active_id_read job (array items) at ranges.active_id)
     (queue_read job (array items) at ranges.queue) (priority_read job (array items) at ranges.priority) (arguments_read job items at)
-    (executions_read job (array items) at told.executions) (counts_read job (array items) at told.counts) (moment_data_read job.at job (array items) at told.at moment) told.whole
+    (executions_read job (array items) at can.executions) (counts_read job (array items) at can.no_counts) (moment_data_read job.at job (array items) at can.moment moment) can.no_float
 
 pub envelope_of-read : (text : List ℕ) (job : NewJob) (args at : Data) → length text ≤ 8192 → is_utf8 text ≡ true → read text ≡ Some (envelope_data job args at)
     → envelope_of text ≡ job_of text (envelope_data job args at)

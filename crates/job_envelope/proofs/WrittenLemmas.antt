@@ -7,7 +7,7 @@ use Rattle.serde_json.specs.Find.{of_integer, is_float}
 use Rattle.serde_json.specs.Written.{has_float, members_have_float}
 use Rattle.job_states.specs.declared.job.Counted.{Counted}
 use Rattle.job_states.specs.declared.command.NewJob.{NewJob}
-use Rattle.job_envelope.specs.Written.{IsMomentData, with_counts, envelope_data}
+use Rattle.job_envelope.specs.Written.{IsScheduledAt, IsEnvelopeOf, with_counts}
 
 pub with_put : (name : List ℕ) (d e : Data) (new old before : Members) → new ≡ put name d old → d ≡ e → old ≡ before → new ≡ put name e before
 with_put name d e new old before is value rest = is ∙ ap (λ v. put name v old) value ∙ ap (put name e) rest
@@ -44,12 +44,12 @@ is_float-of_integer : (z : ℤ) → is_float (of_integer z) ≡ false
 is_float-of_integer (pos n) = refl
 is_float-of_integer (negsuc n) = refl
 
-moment_plain : (moment : Option ℕ) (at : Data) → IsMomentData moment at → (has_float at ≡ false) × (depth at ≡ 0)
+moment_plain : (moment : Option ℕ) (at : Data) → IsScheduledAt moment at → (has_float at ≡ false) × (depth at ≡ 0)
 moment_plain None at is = rw is (refl, refl)
 moment_plain (Some moment) at is = rw is.2 (refl, refl)
 
-pub has_float-envelope_data : (job : NewJob) (args at : Data) → has_float args ≡ false → IsMomentData job.at at → has_float (envelope_data job args at) ≡ false
-has_float-envelope_data job args at whole moment = rw (whole, (counts_plain job.counts).whole, is_float-of_integer job.priority, (moment_plain job.at at moment).0) refl
+pub has_float-IsEnvelopeOf : (job : NewJob) (args d : Data) → IsEnvelopeOf job args d → has_float args ≡ false → has_float d ≡ false
+has_float-IsEnvelopeOf job args d is whole = rw (is.members, whole, (counts_plain job.counts).whole, is_float-of_integer job.priority, (moment_plain job.at is.at is.moment).0) refl
 
-pub depth-envelope_data : (job : NewJob) (args at : Data) → depth args ≤ 126 → IsMomentData job.at at → depth (envelope_data job args at) ≤ 127
-depth-envelope_data job args at nested moment = rw ((counts_plain job.counts).flat, (moment_plain job.at at moment).1) (omega (arith, nested))
+pub depth-IsEnvelopeOf : (job : NewJob) (args d : Data) → IsEnvelopeOf job args d → depth args ≤ 126 → depth d ≤ 127
+depth-IsEnvelopeOf job args d is nested = rw (is.members, (counts_plain job.counts).flat, (moment_plain job.at is.at is.moment).1) (omega (arith, nested))

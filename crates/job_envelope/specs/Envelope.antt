@@ -5,13 +5,13 @@ use Rattle.serde_json.specs.Data.{Data, Items, no_items}
 use Rattle.serde_json.specs.Find.{as_object}
 use Rattle.serde_json.specs.Read.{read}
 use Rattle.serde_json.specs.Written.{has_float, items_have_float, compact_text}
+use Rattle.job_states.specs.Judged.{◌>>=◌}
 use Rattle.job_states.specs.declared.job.Counted.{Counted}
 use Rattle.job_states.specs.declared.command.NewJob.{NewJob}
 use Rattle.job_envelope.specs.declared.fault.EnvelopeFault.TheVariants.{TooLong, NotJson, FloatArgument}
 use Rattle.job_envelope.specs.declared.member.Member.{Member}
 use Rattle.job_envelope.specs.declared.member.Member.TheVariants.{JobClass, JobId, QueueName, Priority, Arguments, Executions, ExceptionExecutions, ScheduledAt}
-use Rattle.job_envelope.specs.Gives.{Judged, ◌>>=◌}
-use Rattle.job_envelope.specs.Kind.{optional, needed, unless_null, or_default, name_in, priority_in, count_in, items_in, counts_in, moment_in}
+use Rattle.job_envelope.specs.Kind.{Judged, optional, needed, unless_null, or_default, name_in, priority_in, count_in, items_in, counts_in, moment_in}
 use Rattle.job_envelope.specs.Arguments.{first_args}
 
 -- ---- the table of the members that are read

@@ -1,16 +1,23 @@
 -- What is read at a member, by the kind of its value.
-use Rattle.std.specs.Prelude.{ℕ, ◌/◌, ◌&&◌, ℤ, pos, negsuc, List, [], ◌∷◌, length, nat_lt, nat_le, int_lt, is_some, Option, Some, None, option_and_then, ok_or, Result, Ok, Err, if◌then◌else◌}
+use Rattle.std.specs.Prelude.{ℕ, ◌/◌, ℤ, pos, negsuc, List, [], ◌∷◌, length, nat_lt, is_some, Option, Some, None, option_and_then, ok_or, Result, Ok, Err, if◌then◌else◌}
 use Rattle.serde_json.specs.Data.{Data, Items, Members, no_members, member}
 use Rattle.serde_json.specs.Events.{members_len}
 use Rattle.serde_json.specs.Find.{get, as_null, as_str, as_number, as_u64, as_integer, as_array, as_object}
 use Rattle.jiff_core.specs.declared.error.Error.{Error}
 use Rattle.jiff_fmt.specs.Temporal.{parse_timestamp}
 use Rattle.job_states.specs.declared.job.Counted.{Counted}
-use Rattle.job_states.specs.declared.moment.TheConstants.{LAST}
+use Rattle.job_states.specs.Judged.{◌>>=◌}
+use Rattle.job_states.specs.Length.{is_name, is_within}
+use Rattle.job_states.specs.Moment.{is_moment}
+use Rattle.job_states.specs.Ranges.{is_count, is_priority}
 use Rattle.job_envelope.specs.declared.member.Member.{Member}
+use Rattle.job_envelope.specs.declared.fault.EnvelopeFault.{EnvelopeFault}
 use Rattle.job_envelope.specs.declared.fault.EnvelopeFault.TheVariants.{Missing, WrongKind, DateRefused}
-use Rattle.job_envelope.specs.Gives.{Judged, ◌>>=◌}
 use Rattle.job_envelope.specs.Member.{member_name}
+
+-- a value, or the first fault
+abbrev pub Judged : Type 0 → Type 0
+Judged X = Result X EnvelopeFault
 
 -- ---- the value of a member, where the envelope has it
 
@@ -37,7 +44,7 @@ text_in m d = ok_or (as_str d) (WrongKind m)
 
 -- 1 to 128 bytes
 abbrev pub name_from : Member → List ℕ → Judged (List ℕ)
-name_from m text = if nat_lt 0 (length text) && nat_le (length text) 128 then Ok text else Err (WrongKind m)
+name_from m text = if is_name text then Ok text else Err (WrongKind m)
 
 abbrev pub name_in : Member → Data → Judged (List ℕ)
 name_in m d = text_in m d >>= name_from m
@@ -45,7 +52,7 @@ name_in m d = text_in m d >>= name_from m
 -- from -2^31 to 2^31-1
 abbrev pub priority_from : Member → Option ℤ → Judged ℤ
 priority_from m None = Err (WrongKind m)
-priority_from m (Some n) = if int_lt n (negsuc 2_147_483_647) then Err (WrongKind m) else (if int_lt (pos 2_147_483_647) n then Err (WrongKind m) else Ok n)
+priority_from m (Some n) = if is_priority n then Ok n else Err (WrongKind m)
 
 abbrev pub priority_in : Member → Data → Judged ℤ
 priority_in m d = priority_from m (option_and_then as_integer (as_number d))
@@ -53,7 +60,7 @@ priority_in m d = priority_from m (option_and_then as_integer (as_number d))
 -- from 0 to 65535
 abbrev pub count_from : Member → Option ℕ → Judged ℕ
 count_from m None = Err (WrongKind m)
-count_from m (Some n) = if nat_le n 65_535 then Ok n else Err (WrongKind m)
+count_from m (Some n) = if is_count n then Ok n else Err (WrongKind m)
 
 abbrev pub count_in : Member → Data → Judged ℕ
 count_in m d = count_from m (option_and_then as_u64 (as_number d))
@@ -66,7 +73,7 @@ items_in m d = ok_or (as_array d) (WrongKind m)
 -- nanoseconds cut to whole microseconds, from 1970 up to the last moment
 abbrev pub moment_from : ℤ → Option ℕ
 moment_from (negsuc n) = None
-moment_from (pos n) = if nat_le (n / 1000) LAST then Some (n / 1000) else None
+moment_from (pos n) = if is_moment (n / 1000) then Some (n / 1000) else None
 
 abbrev pub moment_of : Member → Result ℤ Error → Judged ℕ
 moment_of m (Err e) = Err (DateRefused m)
@@ -79,7 +86,7 @@ moment_in m d = text_in m d >>= λ text. moment_of m (parse_timestamp text)
 
 -- a list's text of 1 to 1024 bytes, and its count
 abbrev pub counted : Member → List ℕ → Data → Judged Counted
-counted m list d = if nat_lt 0 (length list) && nat_le (length list) 1024 then count_in m d >>= (λ count. Ok (record { list = list; count = count })) else Err (WrongKind m)
+counted m list d = if is_within 1 1024 (length list) then count_in m d >>= (λ count. Ok (record { list = list; count = count })) else Err (WrongKind m)
 
 unfoldable pub counts_of : Member → Members → Judged (List Counted)
 counts_of m no_members = Ok []

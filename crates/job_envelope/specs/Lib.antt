@@ -1,6 +1,5 @@
 pub mod Arguments
 pub mod Envelope
-pub mod Gives
 pub mod Kind
 pub mod Member
 pub mod Ranges

@@ -2,33 +2,35 @@
 use Rattle.std.specs.Prelude.{◌≡◌, ◌≤◌, ℕ, ◌*◌, pos, min, List, [], ◌∷◌, ◌++◌, codes, length, false, Option, None, Some, FitsSigned, Ok}
 use Rattle.std.specs.Int.{w32}
 use Rattle.std.specs.Option.{ForSome}
-use Rattle.serde_json.specs.Data.{unsigned, Data, null, number, string, array, object, Items, Members, no_members, member, put, depth}
+use Rattle.serde_json.specs.Data.{Data, null, unsigned, number, string, array, object, Items, Members, no_members, member, put, depth}
 use Rattle.serde_json.specs.Find.{of_integer}
-use Rattle.serde_json.specs.Read.{read}
-use Rattle.serde_json.specs.Written.{has_float, items_have_float, compact_text}
+use Rattle.serde_json.specs.Written.{items_have_float}
 use Rattle.jiff_core.specs.declared.civil.datetime.DateTime.{DateTime}
 use Rattle.jiff_core.specs.DateTime.{civil_nanos}
 use Rattle.jiff_fmt.specs.Temporal.{parse_timestamp}
 use Rattle.jiff_fmt.specs.Text.{datetime_text, zulu_text}
 use Rattle.job_states.specs.Length.{IsName}
+use Rattle.job_states.specs.Moment.{IsMoment, last_moment}
 use Rattle.job_states.specs.declared.job.Counted.{Counted}
 use Rattle.job_states.specs.declared.command.NewJob.{NewJob}
-use Rattle.job_states.specs.declared.moment.TheConstants.{LAST}
 use Rattle.job_envelope.specs.Arguments.{first_args}
 use Rattle.job_envelope.specs.Envelope.{envelope_of}
 
--- What jiff prints of an instant, and reads as it again: the date and the time in UTC, as 2026-03-06T00:00:00.000001Z.
--- The last moment stands for any number past it.
+-- `2026-03-06T00:00:00.000001Z`: what a clock in UTC shows, with no more digits of a fraction than it takes
+abbrev pub utc_text : DateTime → List ℕ
+utc_text utc = datetime_text false 84 None utc ++ zulu_text false
+
+-- The text of a moment, which is read as the same instant. The last moment stands for any number past it.
 pub record IsMomentText (moment : ℕ) (text : List ℕ) : Type 0 where
   pub utc : DateTime
-  pub instant : civil_nanos utc ≡ pos (min moment LAST * 1000)
-  pub printed : text ≡ datetime_text false 84 None utc ++ zulu_text false
-  pub reads : parse_timestamp text ≡ Ok (pos (min moment LAST * 1000))
+  pub instant : civil_nanos utc ≡ pos (min moment last_moment * 1000)
+  pub printed : text ≡ utc_text utc
+  pub reads : parse_timestamp text ≡ Ok (pos (min moment last_moment * 1000))
 
--- null, or the text of the moment
-abbrev pub IsMomentData : Option ℕ → Data → Type 0
-IsMomentData None d = d ≡ null
-IsMomentData (Some moment) d = (text : List ℕ) × IsMomentText moment text × (d ≡ string text)
+-- what stands at scheduled_at: null, or the text of the moment
+abbrev pub IsScheduledAt : Option ℕ → Data → Type 0
+IsScheduledAt None d = d ≡ null
+IsScheduledAt (Some moment) d = (text : List ℕ) × IsMomentText moment text × (d ≡ string text)
 
 -- the members with the counts put in, one after another
 abbrev pub with_counts : List Counted → Members → Members
@@ -36,7 +38,7 @@ with_counts [] ms = ms
 with_counts (c ∷ cs) ms = with_counts cs (put c.list (number (unsigned c.count)) ms)
 
 -- all twelve members, in byte order of their names
-abbrev pub envelope_data : NewJob → Data → Data → Data
+abbrev pub envelope_data : NewJob → (args at : Data) → Data
 envelope_data job args at = object
     (member (codes "arguments") args
     (member (codes "enqueued_at") null
@@ -52,13 +54,11 @@ envelope_data job args at = object
     (member (codes "timezone") null
     no_members))))))))))))
 
--- The text is the compact one of the envelope, and reads as the envelope. Where an argument is a float only the latter
--- is known.
-pub record IsWritten (job : NewJob) (args : Data) (text : List ℕ) : Type 0 where
+-- the envelope of a job with these arguments
+pub record IsEnvelopeOf (job : NewJob) (args d : Data) : Type 0 where
   pub at : Data
-  pub scheduled : IsMomentData job.at at
-  pub compact : has_float args ≡ false → text ≡ compact_text (envelope_data job args at)
-  pub reads : depth args ≤ 126 → read text ≡ Some (envelope_data job args at)
+  pub moment : IsScheduledAt job.at at
+  pub members : d ≡ envelope_data job args at
 
 -- what a job's types say of it
 pub record HasRanges (job : NewJob) : Type 0 where
@@ -67,15 +67,15 @@ pub record HasRanges (job : NewJob) : Type 0 where
   pub queue : IsName job.queue
   pub priority : FitsSigned w32 job.priority
 
--- what an envelope can tell of a job, within its length
-pub record IsTold (job : NewJob) (items : Items) (text : List ℕ) : Type 0 where
-  pub at : ForSome job.at (λ moment. moment ≤ LAST)
-  pub counts : job.counts ≡ []
+-- what has to hold of a job, its arguments and its text, so that the text reads as the job again
+pub record CanReadBack (job : NewJob) (items : Items) (text : List ℕ) : Type 0 where
+  pub moment : ForSome job.at IsMoment
+  pub no_counts : job.counts ≡ []
   pub executions : job.executions ≤ 65_535
-  pub whole : items_have_float items ≡ false
+  pub no_float : items_have_float items ≡ false
   pub nested : depth (array items) ≤ 126
   pub short : length text ≤ 8192
 
 -- The text reads as the job again, with the first of the arguments that were written.
 abbrev pub ReadsBack : NewJob → Data → List ℕ → Type 0
-ReadsBack job args text = (items : Items) → args ≡ array items → IsTold job items text → envelope_of text ≡ Ok (record job { envelope = text; args = first_args items })
+ReadsBack job args text = (items : Items) → args ≡ array items → CanReadBack job items text → envelope_of text ≡ Ok (record job { envelope = text; args = first_args items })

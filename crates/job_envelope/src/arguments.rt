@@ -23,7 +23,7 @@ fn arg_of(alloc: Global, value: &Value) -> Result<Arg, NoMemory>
 /// The first 16 arguments.
 pub(crate) fn first_args(alloc: Global, items: &[Value]) -> Result<List<Arg>, NoMemory>
     ensures exact { IfOk result (λ args. args ≡ spec.first_args (items_view items.now)) }
-    ensures few { IfOk result (λ args. length args ≤ MOST) }
+    ensures few { IfOk result (λ args. length args ≤ 16) }
 {
     let mut args = Vec::new(alloc);
     for item in &items[..MOST.min(items.len())] {

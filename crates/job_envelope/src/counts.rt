@@ -1,10 +1,12 @@
-ghost use Rattle.std.specs.Prelude.{◌≡◌, map, All, IfOk, OnOk, string_bytes, string_cmp};
+ghost use Rattle.std.specs.Prelude.{◌≡◌, map, IfOk, IsTrue, OnOk, string_bytes, string_cmp};
+ghost use Rattle.std.specs.List.{AllPass};
 ghost use Rattle.std.specs.BTreeMap.{keys};
 ghost use Rattle.std.specs.List.Sorted.{IsStrictlySortedBy};
 ghost use Rattle.serde_json.specs.View.{view, members_view};
-ghost use Rattle.job_envelope.specs.Gives.{Gives};
+ghost use Rattle.job_states.specs.Judged.{Gives};
 ghost use Rattle.job_envelope.specs.Kind as spec;
-ghost use Rattle.job_envelope.specs.Ranges.{IsCounted, AreCounts, lists_of};
+ghost use Rattle.job_states.specs.Ranges.{is_counted, texts_of_counts};
+ghost use Rattle.job_envelope.specs.Ranges.{AreEnvelopeCounts};
 
 use crate::kind::count_in;
 use crate::{EnvelopeFault, Member};
@@ -24,8 +26,8 @@ fn counted(
     list: &str,
     value: &Value,
 ) -> Result<Counted, EnvelopeFault>
-    ensures exact { Gives result (spec.counted member list.now (view value.now)) }
-    ensures range { IfOk result IsCounted }
+    ensures exact { Gives EnvelopeFault.NoMemory result (spec.counted member list.now (view value.now)) }
+    ensures range { IfOk result (λ c. IsTrue (is_counted c)) }
     ensures list { IfOk result (λ c. c.list ≡ list.now) }
 {
     if list.is_empty() || list.len() > LONGEST {
@@ -43,9 +45,9 @@ fn counts_of(
     member: Member,
     lists: &Map<String, Value>,
 ) -> Result<List<Counted>, EnvelopeFault>
-    ensures exact { Gives result (spec.counts_of member (members_view lists.now.entries)) }
-    ensures each { IfOk result (All IsCounted) }
-    ensures lists { IfOk result (λ counts. lists_of counts ≡ map string_bytes (keys lists.now)) }
+    ensures exact { Gives EnvelopeFault.NoMemory result (spec.counts_of member (members_view lists.now.entries)) }
+    ensures each { IfOk result (AllPass is_counted) }
+    ensures lists { IfOk result (λ counts. texts_of_counts counts ≡ map string_bytes (keys lists.now)) }
     ensures ordered { OnOk result (IsStrictlySortedBy string_cmp (keys lists.now)) }
 {
     let mut counts = Vec::new(alloc);
@@ -60,9 +62,9 @@ fn counts_from(
     member: Member,
     lists: &Map<String, Value>,
 ) -> Result<List<Counted>, EnvelopeFault>
-    ensures exact { Gives result
+    ensures exact { Gives EnvelopeFault.NoMemory result
         (spec.counts_from member (Some (members_view lists.now.entries))) }
-    ensures ranges { IfOk result AreCounts }
+    ensures ranges { IfOk result AreEnvelopeCounts }
 {
     if lists.len() > MOST {
         return Err(EnvelopeFault::WrongKind { member });
@@ -76,8 +78,8 @@ pub(crate) fn counts_in(
     member: Member,
     value: &Value,
 ) -> Result<List<Counted>, EnvelopeFault>
-    ensures exact { Gives result (spec.counts_in member (view value.now)) }
-    ensures ranges { IfOk result AreCounts }
+    ensures exact { Gives EnvelopeFault.NoMemory result (spec.counts_in member (view value.now)) }
+    ensures ranges { IfOk result AreEnvelopeCounts }
 {
     match value.as_object() {
         Some(lists) => counts_from(alloc, member, lists),

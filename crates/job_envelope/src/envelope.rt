@@ -1,27 +1,33 @@
-ghost use Rattle.std.specs.Prelude.{◌≤◌, length, IfOk, OnOk, IfSome, IsUtf8};
+ghost use Rattle.std.specs.Prelude.{◌≡◌, ◌<◌, ◌≤◌, length, false, true, IfOk, OnOk, IfSome, IsSomeAnd, IsTrue};
+ghost use Rattle.std.specs.Str.{is_utf8};
+ghost use Rattle.serde_json.specs.Data.{Data, depth};
+ghost use Rattle.serde_json.specs.Read.{read};
 ghost use Rattle.serde_json.specs.View.{view, items_view};
-ghost use Rattle.job_envelope.specs.Gives.{Gives, GivesAs};
+ghost use Rattle.serde_json.specs.Written.{compact_text, has_float};
+ghost use Rattle.job_states.specs.Judged.{Gives, GivesAs};
+ghost use Rattle.job_states.specs.Moment.{IsMoment};
+ghost use Rattle.job_states.specs.Ranges.{is_count, is_envelope};
 ghost use Rattle.job_envelope.specs.Envelope as spec;
-ghost use Rattle.job_envelope.specs.Ranges.{AreCounts, IsInRange};
-ghost use Rattle.job_envelope.specs.Written.{IsWritten, ReadsBack};
+ghost use Rattle.job_envelope.specs.Ranges.{AreEnvelopeCounts, IsInRange};
+ghost use Rattle.job_envelope.specs.Written.{IsEnvelopeOf, ReadsBack};
 
 use crate::arguments::first_args;
 use crate::counts::counts_in;
-use crate::float::{any_item, holds_float};
+use crate::float::{holds_float, items_hold_float};
 use crate::kind::{
     count_in, items_in, moment_in, name_from, name_in, needed, optional, optional_or_null,
     priority_in,
 };
 use crate::written::envelope_value;
 use crate::{EnvelopeFault, Member};
-use job_states::{Bytes, Counted, LAST, List, Moment, Name, NewJob, NoMemory};
+use job_states::{Bytes, Counted, List, Moment, Name, NewJob, NoMemory};
 use serde_json::Value;
 use std::alloc::Global;
 
 /// The JSON object of the bytes.
 fn object_of(alloc: Global, bytes: &[u8]) -> Result<Value, EnvelopeFault>
-    ensures exact { GivesAs view result (spec.object_of bytes.now) }
-    ensures utf8 { OnOk result (IsUtf8 bytes.now) }
+    ensures exact { GivesAs EnvelopeFault.NoMemory view result (spec.object_of bytes.now) }
+    ensures utf8 { OnOk result (IsTrue (is_utf8 bytes.now)) }
 {
     let value = match Value::from_slice(alloc, bytes) {
         Ok(value) => value,
@@ -36,14 +42,14 @@ fn object_of(alloc: Global, bytes: &[u8]) -> Result<Value, EnvelopeFault>
 
 #[tactic(auto, unfolding(crate::specs::Envelope::name_at))]
 fn name_at(alloc: Global, envelope: &Value, member: Member) -> Result<Name, EnvelopeFault>
-    ensures { Gives result (spec.name_at member (view envelope.now)) }
+    ensures { Gives EnvelopeFault.NoMemory result (spec.name_at member (view envelope.now)) }
 {
     name_in(alloc, member, needed(envelope, member)?)
 }
 
 #[tactic(auto, unfolding(crate::specs::Envelope::queue_at))]
 fn queue_at(alloc: Global, envelope: &Value) -> Result<Name, EnvelopeFault>
-    ensures { Gives result (spec.queue_at (view envelope.now)) }
+    ensures { Gives EnvelopeFault.NoMemory result (spec.queue_at (view envelope.now)) }
 {
     let member = Member::QueueName;
     match optional_or_null(envelope, member) {
@@ -54,7 +60,7 @@ fn queue_at(alloc: Global, envelope: &Value) -> Result<Name, EnvelopeFault>
 
 #[tactic(auto, unfolding(crate::specs::Envelope::priority_at))]
 fn priority_at(envelope: &Value) -> Result<i32, EnvelopeFault>
-    ensures { Gives result (spec.priority_at (view envelope.now)) }
+    ensures { Gives EnvelopeFault.NoMemory result (spec.priority_at (view envelope.now)) }
 {
     let member = Member::Priority;
     match optional_or_null(envelope, member) {
@@ -65,7 +71,7 @@ fn priority_at(envelope: &Value) -> Result<i32, EnvelopeFault>
 
 #[tactic(auto, unfolding(crate::specs::Envelope::arguments_at))]
 fn arguments_at<'v>(envelope: &'v Value) -> Result<&'v [Value], EnvelopeFault>
-    ensures { GivesAs (λ items. items_view items.now) result (spec.arguments_at (view envelope.now)) }
+    ensures { GivesAs EnvelopeFault.NoMemory (λ items. items_view items.now) result (spec.arguments_at (view envelope.now)) }
 {
     let member = Member::Arguments;
     match optional(envelope, member) {
@@ -76,8 +82,8 @@ fn arguments_at<'v>(envelope: &'v Value) -> Result<&'v [Value], EnvelopeFault>
 
 #[tactic(auto, unfolding(crate::specs::Envelope::executions_at))]
 fn executions_at(envelope: &Value) -> Result<u32, EnvelopeFault>
-    ensures exact { Gives result (spec.executions_at (view envelope.now)) }
-    ensures most { IfOk result (λ n. n ≤ 65_535) }
+    ensures exact { Gives EnvelopeFault.NoMemory result (spec.executions_at (view envelope.now)) }
+    ensures range { IfOk result (λ n. IsTrue (is_count n)) }
 {
     let member = Member::Executions;
     match optional(envelope, member) {
@@ -88,8 +94,8 @@ fn executions_at(envelope: &Value) -> Result<u32, EnvelopeFault>
 
 #[tactic(auto, unfolding(crate::specs::Envelope::counts_at))]
 fn counts_at(alloc: Global, envelope: &Value) -> Result<List<Counted>, EnvelopeFault>
-    ensures exact { Gives result (spec.counts_at (view envelope.now)) }
-    ensures ranges { IfOk result AreCounts }
+    ensures exact { Gives EnvelopeFault.NoMemory result (spec.counts_at (view envelope.now)) }
+    ensures ranges { IfOk result AreEnvelopeCounts }
 {
     let member = Member::ExceptionExecutions;
     match optional(envelope, member) {
@@ -100,8 +106,8 @@ fn counts_at(alloc: Global, envelope: &Value) -> Result<List<Counted>, EnvelopeF
 
 #[tactic(auto, unfolding(crate::specs::Envelope::moment_at))]
 fn moment_at(envelope: &Value) -> Result<Option<Moment>, EnvelopeFault>
-    ensures exact { Gives result (spec.moment_at (view envelope.now)) }
-    ensures last { IfOk result (λ at. IfSome at (λ moment. moment ≤ LAST)) }
+    ensures exact { Gives EnvelopeFault.NoMemory result (spec.moment_at (view envelope.now)) }
+    ensures last { IfOk result (λ at. IfSome at IsMoment) }
 {
     let member = Member::ScheduledAt;
     match optional_or_null(envelope, member) {
@@ -113,8 +119,8 @@ fn moment_at(envelope: &Value) -> Result<Option<Moment>, EnvelopeFault>
 /// The job that an object asks for, with the bytes that came as its envelope.
 #[tactic(auto, unfolding(crate::specs::Envelope::job_of))]
 fn job_of(alloc: Global, bytes: &[u8], envelope: &Value) -> Result<NewJob, EnvelopeFault>
-    ensures exact { Gives result (spec.job_of bytes.now (view envelope.now)) }
-    ensures ranges { length bytes.now ≤ 8192 → IsUtf8 bytes.now → IfOk result IsInRange }
+    ensures exact { Gives EnvelopeFault.NoMemory result (spec.job_of bytes.now (view envelope.now)) }
+    ensures ranges { IsTrue (is_envelope bytes.now) → IfOk result IsInRange }
 {
     let class = name_at(alloc, envelope, Member::JobClass)?;
     let active_id = name_at(alloc, envelope, Member::JobId)?;
@@ -124,7 +130,7 @@ fn job_of(alloc: Global, bytes: &[u8], envelope: &Value) -> Result<NewJob, Envel
     let executions = executions_at(envelope)?;
     let counts = counts_at(alloc, envelope)?;
     let at = moment_at(envelope)?;
-    if any_item(arguments) {
+    if items_hold_float(arguments) {
         return Err(EnvelopeFault::FloatArgument);
     }
     Ok(NewJob {
@@ -141,7 +147,6 @@ fn job_of(alloc: Global, bytes: &[u8], envelope: &Value) -> Result<NewJob, Envel
 }
 
 /// Active Job's serialized jobs.
-#[derive(Clone, Copy, Debug)]
 pub struct Envelope;
 
 impl Envelope {
@@ -151,7 +156,8 @@ impl Envelope {
     /// The job that the bytes ask for. They are its envelope as they came.
     #[tactic(auto, unfolding(crate::specs::Envelope::envelope_of))]
     pub fn read(alloc: Global, bytes: &[u8]) -> Result<NewJob, EnvelopeFault>
-        ensures exact { Gives result (spec.envelope_of bytes.now) }
+        ensures exact { Gives EnvelopeFault.NoMemory result (spec.envelope_of bytes.now) }
+        ensures too_long { 8192 < length bytes.now → result ≡ Err (EnvelopeFault.TooLong (length bytes.now)) }
         ensures ranges { IfOk result IsInRange }
     {
         if bytes.len() > Envelope::MAX_LEN {
@@ -164,7 +170,8 @@ impl Envelope {
     /// The job that a JSON value asks for. Its envelope is the value's compact text.
     #[tactic(auto, unfolding(crate::specs::Envelope::value_envelope))]
     pub fn read_value(alloc: Global, value: &Value) -> Result<NewJob, EnvelopeFault>
-        ensures exact { Gives result (spec.value_envelope (view value.now)) }
+        ensures exact { Gives EnvelopeFault.NoMemory result (spec.value_envelope (view value.now)) }
+        ensures float { has_float (view value.now) ≡ true → result ≡ Err EnvelopeFault.FloatArgument }
         ensures ranges { IfOk result IsInRange }
     {
         if holds_float(value) {
@@ -176,11 +183,14 @@ impl Envelope {
 
     /// The envelope of a job with these arguments: compact JSON with the members that Active Job writes, in byte order of
     /// their names. `enqueued_at`, `locale`, `provider_job_id` and `timezone` are null. A moment past [`LAST`] is written
-    /// as [`LAST`].
+    /// as [`LAST`]. The digits of a float are left open, and so is what arguments that nest more than 126 deep are read as.
     ///
     /// [`LAST`]: job_states::LAST
     pub fn write(alloc: Global, job: &NewJob, args: &Value) -> Result<Bytes, NoMemory>
-        ensures written { IfOk result (IsWritten job.now (view args.now)) }
+        ensures compact { has_float (view args.now) ≡ false → IfOk result
+            (λ text. (d : Data) × IsEnvelopeOf job.now (view args.now) d × (text ≡ compact_text d)) }
+        ensures json { depth (view args.now) ≤ 126 → IfOk result
+            (λ text. IsSomeAnd (read text) (IsEnvelopeOf job.now (view args.now))) }
         ensures reads_back { IfOk result (ReadsBack job.now (view args.now)) }
     {
         let envelope = envelope_value(alloc, job, args)?;

@@ -4,45 +4,33 @@ ghost use Rattle.job_envelope.specs.declared.fault.EnvelopeFault.TheVariants.{No
 use crate::Member;
 use job_states::NoMemory;
 use std::alloc::{AllocError, AllocFailed};
-use std::error::Error;
-use std::fmt;
+use thiserror::Error;
 
 /// Why bytes are no envelope that is accepted: the first fault, in this order.
-#[derive(Clone, Copy, Debug, PartialEq, Eq)]
+#[derive(Debug, Drop, Error)]
 pub enum EnvelopeFault {
     /// There are more than 8192 bytes: this many.
+    #[error("{len} bytes are too many for an envelope")]
     TooLong { len: usize },
     /// They aren't the UTF-8 text of a JSON object.
+    #[error("no JSON object")]
     NotJson,
     /// A member that is needed isn't there.
+    #[error("{} is missing", .member.as_str())]
     Missing { member: Member },
     /// A member's value is of the wrong kind, or out of its range.
+    #[error("{} is of the wrong kind or out of its range", .member.as_str())]
     WrongKind { member: Member },
     /// A member's text isn't an instant from 1970 up to the end of the year 9998.
+    #[error("{} is no instant from 1970 to 9998", .member.as_str())]
     DateRefused { member: Member },
     /// The arguments hold a number that isn't whole, or isn't from -2^63 to 2^64-1.
+    #[error("arguments hold a number that isn't whole, or isn't from -2^63 to 2^64-1")]
     FloatArgument,
     /// There was no memory.
+    #[error("out of memory")]
     NoMemory,
 }
-
-impl fmt::Display for EnvelopeFault {
-    fn fmt<W: fmt::Write>(&self, f: &mut fmt::Formatter<W>) -> fmt::Result {
-        match self {
-            EnvelopeFault::TooLong { len } => write!(f, "{len} bytes are too many"),
-            EnvelopeFault::NotJson => f.write_str("no JSON object"),
-            EnvelopeFault::Missing { member } => write!(f, "{} is missing", member.as_str()),
-            EnvelopeFault::WrongKind { member } => {
-                write!(f, "{} is of the wrong kind", member.as_str())
-            }
-            EnvelopeFault::DateRefused { member } => write!(f, "{} is no moment", member.as_str()),
-            EnvelopeFault::FloatArgument => f.write_str("an argument holds a float"),
-            EnvelopeFault::NoMemory => f.write_str("out of memory"),
-        }
-    }
-}
-
-impl Error for EnvelopeFault {}
 
 impl From<NoMemory> for EnvelopeFault {
     ghost from_gives = { λ _ e. e ≡ OutOfMemory };

@@ -11,15 +11,15 @@ pub(crate) fn holds_float(value: &Value) -> bool
 {
     match value {
         Value::Number(number) => number.is_f64(),
-        Value::Array(items) => any_item(items),
-        Value::Object(members) => any_member(members),
+        Value::Array(items) => items_hold_float(items),
+        Value::Object(members) => members_hold_float(members),
         Value::Null | Value::Bool(_) | Value::String(_) => false,
     }
 }
 
 /// Does an item hold one?
 #[cycle(floats)]
-pub(crate) fn any_item(items: &[Value]) -> bool
+pub(crate) fn items_hold_float(items: &[Value]) -> bool
     ensures { result ≡ items_have_float (items_view items.now) }
 {
     for item in items {
@@ -32,7 +32,7 @@ pub(crate) fn any_item(items: &[Value]) -> bool
 
 /// Does a member hold one?
 #[cycle(floats)]
-fn any_member(members: &Map<String, Value>) -> bool
+fn members_hold_float(members: &Map<String, Value>) -> bool
     ensures { result ≡ members_have_float (members_view members.now.entries) }
 {
     for (_, member) in members.iter() {

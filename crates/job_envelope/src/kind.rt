@@ -1,6 +1,8 @@
-ghost use Rattle.std.specs.Prelude.{◌≡◌, ◌≤◌, option_map, IfOk, IfSome};
+ghost use Rattle.std.specs.Prelude.{◌≡◌, option_map, IfOk, IfSome, IsTrue};
 ghost use Rattle.serde_json.specs.View.{view, items_view};
-ghost use Rattle.job_envelope.specs.Gives.{Gives, GivesAs};
+ghost use Rattle.job_states.specs.Judged.{Gives, GivesAs};
+ghost use Rattle.job_states.specs.Moment.{IsMoment};
+ghost use Rattle.job_states.specs.Ranges.{is_count};
 ghost use Rattle.job_envelope.specs.Kind as spec;
 
 use crate::{EnvelopeFault, Member};
@@ -10,7 +12,7 @@ use serde_json::{Number, Value};
 use std::alloc::Global;
 
 /// The greatest count.
-const MOST: u64 = 65535;
+const MOST: u64 = 65_535;
 
 /// The value of a member, where the object has it.
 pub(crate) fn optional<'v>(object: &'v Value, member: Member) -> Option<&'v Value>
@@ -32,7 +34,7 @@ pub(crate) fn optional_or_null<'v>(object: &'v Value, member: Member) -> Option<
 
 /// The value of a member that is needed.
 pub(crate) fn needed<'v>(object: &'v Value, member: Member) -> Result<&'v Value, EnvelopeFault>
-    ensures { GivesAs (λ v. view v.now) result (spec.needed member (view object.now)) }
+    ensures { GivesAs EnvelopeFault.NoMemory (λ v. view v.now) result (spec.needed member (view object.now)) }
 {
     match optional(object, member) {
         Some(value) => Ok(value),
@@ -41,7 +43,7 @@ pub(crate) fn needed<'v>(object: &'v Value, member: Member) -> Result<&'v Value,
 }
 
 fn text_in<'v>(member: Member, value: &'v Value) -> Result<&'v str, EnvelopeFault>
-    ensures { GivesAs (λ s. s.now) result (spec.text_in member (view value.now)) }
+    ensures { GivesAs EnvelopeFault.NoMemory (λ s. s.now) result (spec.text_in member (view value.now)) }
 {
     match value.as_str() {
         Some(text) => Ok(text),
@@ -51,7 +53,7 @@ fn text_in<'v>(member: Member, value: &'v Value) -> Result<&'v str, EnvelopeFaul
 
 /// A name of these bytes.
 pub(crate) fn name_from(alloc: Global, member: Member, text: &str) -> Result<Name, EnvelopeFault>
-    ensures { Gives result (spec.name_from member text.now) }
+    ensures { Gives EnvelopeFault.NoMemory result (spec.name_from member text.now) }
 {
     match Name::read(alloc, text) {
         Ok(name) => Ok(name),
@@ -63,14 +65,14 @@ pub(crate) fn name_from(alloc: Global, member: Member, text: &str) -> Result<Nam
 }
 
 pub(crate) fn name_in(alloc: Global, member: Member, value: &Value) -> Result<Name, EnvelopeFault>
-    ensures { Gives result (spec.name_in member (view value.now)) }
+    ensures { Gives EnvelopeFault.NoMemory result (spec.name_in member (view value.now)) }
 {
     name_from(alloc, member, text_in(member, value)?)
 }
 
 /// A whole number that fits.
 pub(crate) fn priority_in(member: Member, value: &Value) -> Result<i32, EnvelopeFault>
-    ensures { Gives result (spec.priority_in member (view value.now)) }
+    ensures { Gives EnvelopeFault.NoMemory result (spec.priority_in member (view value.now)) }
 {
     match value.as_number().and_then(Number::as_i128) {
         Some(n) if n >= i32::MIN as i128 && n <= i32::MAX as i128 => Ok(n as i32),
@@ -80,8 +82,8 @@ pub(crate) fn priority_in(member: Member, value: &Value) -> Result<i32, Envelope
 
 /// A whole number from 0 to 65535.
 pub(crate) fn count_in(member: Member, value: &Value) -> Result<u32, EnvelopeFault>
-    ensures exact { Gives result (spec.count_in member (view value.now)) }
-    ensures most { IfOk result (λ n. n ≤ MOST) }
+    ensures exact { Gives EnvelopeFault.NoMemory result (spec.count_in member (view value.now)) }
+    ensures range { IfOk result (λ n. IsTrue (is_count n)) }
 {
     match value.as_u64() {
         Some(n) if n <= MOST => Ok(n as u32),
@@ -91,7 +93,7 @@ pub(crate) fn count_in(member: Member, value: &Value) -> Result<u32, EnvelopeFau
 
 /// The items of an array.
 pub(crate) fn items_in<'v>(member: Member, value: &'v Value) -> Result<&'v [Value], EnvelopeFault>
-    ensures { GivesAs (λ v. items_view v.now) result (spec.items_in member (view value.now)) }
+    ensures { GivesAs EnvelopeFault.NoMemory (λ v. items_view v.now) result (spec.items_in member (view value.now)) }
 {
     match value.as_array() {
         Some(items) => Ok(items),
@@ -102,7 +104,7 @@ pub(crate) fn items_in<'v>(member: Member, value: &'v Value) -> Result<&'v [Valu
 /// Whole microseconds of an instant that is given in nanoseconds, from 1970 up to the last moment.
 fn moment_from(nanos: i128) -> Option<Moment>
     ensures exact { result ≡ spec.moment_from nanos }
-    ensures last { IfSome result (λ moment. moment ≤ LAST) }
+    ensures last { IfSome result IsMoment }
 {
     if nanos < 0 {
         return None;
@@ -116,8 +118,8 @@ fn moment_from(nanos: i128) -> Option<Moment>
 
 /// An instant.
 pub(crate) fn moment_in(member: Member, value: &Value) -> Result<Moment, EnvelopeFault>
-    ensures exact { Gives result (spec.moment_in member (view value.now)) }
-    ensures last { IfOk result (λ moment. moment ≤ LAST) }
+    ensures exact { Gives EnvelopeFault.NoMemory result (spec.moment_in member (view value.now)) }
+    ensures last { IfOk result IsMoment }
 {
     let text = text_in(member, value)?;
     let refused = EnvelopeFault::DateRefused { member };

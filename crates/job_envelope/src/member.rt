@@ -1,5 +1,5 @@
 /// The members of an envelope that are read, in the order in which they are judged.
-#[derive(Clone, Copy, Debug, PartialEq, Eq)]
+#[derive(Clone, Copy, Debug)]
 pub enum Member {
     JobClass,
     JobId,

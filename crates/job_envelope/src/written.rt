@@ -1,10 +1,10 @@
 ghost use Rattle.std.specs.Prelude.{◌≡◌, IfOk, OnOk, string_bytes, FitsSigned};
 ghost use Rattle.std.specs.Int.{w32};
-ghost use Rattle.serde_json.specs.Data.{Data, number, string, object, no_members};
+ghost use Rattle.serde_json.specs.Data.{number, string, object, no_members};
 ghost use Rattle.serde_json.specs.Find.{of_integer};
 ghost use Rattle.serde_json.specs.View.{view};
 ghost use Rattle.job_states.specs.Length.{IsName};
-ghost use Rattle.job_envelope.specs.Written.{IsMomentText, IsMomentData, HasRanges, with_counts, envelope_data};
+ghost use Rattle.job_envelope.specs.Written.{IsMomentText, IsScheduledAt, IsEnvelopeOf, HasRanges, with_counts};
 
 use jiff_core::Timestamp;
 use jiff_fmt::temporal::DateTimePrinter;
@@ -23,7 +23,7 @@ fn moment_text(alloc: Global, moment: Moment) -> Result<String, NoMemory>
 }
 
 fn moment_value(alloc: Global, moment: Option<Moment>) -> Result<Value, NoMemory>
-    ensures { IfOk result (λ value. IsMomentData moment (view value)) }
+    ensures { IfOk result (λ value. IsScheduledAt moment (view value)) }
 {
     match moment {
         Some(moment) => Ok(Value::String(moment_text(alloc, moment)?)),
@@ -58,8 +58,7 @@ fn counts_value(alloc: Global, counts: &[Counted]) -> Result<Value, NoMemory>
 
 /// The envelope of a job with these arguments.
 pub(crate) fn envelope_value(alloc: Global, job: &NewJob, args: &Value) -> Result<Value, NoMemory>
-    ensures value { IfOk result (λ value. (at : Data) × IsMomentData job.now.at at
-        × (view value ≡ envelope_data job.now (view args.now) at)) }
+    ensures value { IfOk result (λ value. IsEnvelopeOf job.now (view args.now) (view value)) }
     ensures ranges { OnOk result (HasRanges job.now) }
 {
     let mut members = Map::new(alloc);

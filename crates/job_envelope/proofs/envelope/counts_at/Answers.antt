@@ -1,5 +1,5 @@
-use Rattle.job_envelope.proofs.CountLemmas.{AreCounts-none}
+use Rattle.job_envelope.proofs.CountLemmas.{AreEnvelopeCounts-none}
 use Rattle.job_envelope.proofs.envelope.counts_at.Goals as goal
 
 pub returns-in-None-clause-ranges : goal.returns-in-None-clause-ranges
-returns-in-None-clause-ranges c = rw (c.of.ensures, c.new.ensures.items) AreCounts-none
+returns-in-None-clause-ranges c = rw (c.of.ensures, c.new.ensures.items) AreEnvelopeCounts-none

@@ -3,11 +3,11 @@ use Rattle.serde_json.specs.View.{items_view, members_view}
 use Rattle.serde_json.specs.Written.{items_have_float, members_have_float}
 use Rattle.job_envelope.proofs.float.+floats.Given as goal
 
-abbrev pub invariant-any_item-loop-item : goal.invariant-any_item-loop-item
-invariant-any_item-loop-item l = items_have_float (items_view (drop l.item-index l.items)) ≡ items_have_float (items_view l.items)
+abbrev pub invariant-items_hold_float-loop-item : goal.invariant-items_hold_float-loop-item
+invariant-items_hold_float-loop-item l = items_have_float (items_view (drop l.item-index l.items)) ≡ items_have_float (items_view l.items)
 
-abbrev pub invariant-any_member-loop-member : goal.invariant-any_member-loop-member
-invariant-any_member-loop-member l =
-    (goal.iterator-any_member-loop-member).can_next l.member-iterator
-    × (goal.iterator-any_member-loop-member).is_finite l.member-iterator
+abbrev pub invariant-members_hold_float-loop-member : goal.invariant-members_hold_float-loop-member
+invariant-members_hold_float-loop-member l =
+    (goal.iterator-members_hold_float-loop-member).can_next l.member-iterator
+    × (goal.iterator-members_hold_float-loop-member).is_finite l.member-iterator
     × (members_have_float (members_view l.member-iterator) ≡ members_have_float (members_view l.members.entries))

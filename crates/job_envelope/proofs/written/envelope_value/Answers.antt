@@ -1,15 +1,14 @@
 use Rattle.std.proofs.Common.{◌≡◌, refl, ap, ◌∙◌, codes}
 use Rattle.serde_json.specs.Data.{null, object, no_members}
 use Rattle.serde_json.specs.View.{view, members_view}
-use Rattle.serde_json.specs.declared.value.Value.{Null, Object, the_lemmas}
+use Rattle.serde_json.specs.declared.value.Value.{Null, the_lemmas}
 use Rattle.serde_json.proofs.Views.{view-Object}
-use Rattle.job_envelope.specs.Written.{with_counts, envelope_data}
+use Rattle.job_envelope.specs.Written.{with_counts}
 use Rattle.job_envelope.proofs.WrittenLemmas.{with_put}
 use Rattle.job_envelope.proofs.written.envelope_value.Goals as goal
 
 pub returns-clause-value : goal.returns-clause-value
 returns-clause-value c =
-    let at = view c.in_ok-moment_value.field-0 in
     let empty : members_view c.new-members.result.entries ≡ no_members = rw c.new-members.ensures.empty refl in
     let counts : view c.in_ok-counts.counts ≡ object (with_counts c.args.job.now.counts no_members) = rw (← c.as_slice.ensures) c.in_ok-counts.ensures in
     let nothing : view Null ≡ null = search the_lemmas in
@@ -25,8 +24,7 @@ returns-clause-value c =
     let queue_name = with_put (codes "queue_name") _ _ _ _ _ c.in_ok-put-10.ensures.ok c.in_ok-name_value-3.ensures.value provider_job_id in
     let scheduled_at = with_put (codes "scheduled_at") _ _ _ _ _ c.in_ok-put-11.ensures.ok refl queue_name in
     let timezone = with_put (codes "timezone") _ _ _ _ _ c.in_ok-put-12.ensures.ok nothing scheduled_at in
-    let built : view (Object c.put-12.new.map) ≡ envelope_data c.args.job.now (view c.args.args.now) at = view-Object c.put-12.new.map ∙ ap object timezone in
-    (at, c.in_ok-moment_value.ensures, built)
+    record { at = view c.in_ok-moment_value.field-0; moment = c.in_ok-moment_value.ensures; members = view-Object c.put-12.new.map ∙ ap object timezone }
 
 pub returns-clause-ranges : goal.returns-clause-ranges
 returns-clause-ranges c = record {
