@@ -1,7 +1,8 @@
 -- The first key that a table may not have, as a loop finds it.
 use Rattle.std.proofs.Common.{◌≡◌, ℕ, true, false, List, Some, None, refl}
 use Rattle.toml.specs.Data.{Data, Members, no_members, member}
-use Rattle.queue_config.specs.Kind.{is_among, first_unknown}
+use Rattle.job_states.specs.Texts.{is_among}
+use Rattle.queue_config.specs.Kind.{first_unknown}
 
 pub goes_on : (keys : List (List ℕ)) (key : List ℕ) (d : Data) (ms : Members) → is_among keys key ≡ true → first_unknown keys (member key d ms) ≡ first_unknown keys ms
 unfolding first_unknown

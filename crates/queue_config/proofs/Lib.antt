@@ -1,6 +1,7 @@
 pub mod DocumentLemmas
 pub mod ElementLemmas
-pub mod FaultLemmas
+pub mod ClassLemmas
 pub mod KeyLemmas
 pub mod NameLemmas
 pub mod ViewLemmas
+pub mod PlaceLemmas

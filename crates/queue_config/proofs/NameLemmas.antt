@@ -1,5 +1,5 @@
 -- Names that are among others, and the first that is repeated.
-use Rattle.std.proofs.Common.{◌≡◌, ◌≢◌, ◌≤◌, Bor, ℕ, ◌+◌, ◌<◌, Bool, true, false, ◌||◌, cond, List, [], ◌∷◌, ◌++◌, length, map, get_or, take, drop, Option, Some, None, refl, sym, ap, ◌∙◌, arith, append_assoc, length-drop}
+use Rattle.std.proofs.Common.{◌≡◌, ◌≢◌, ◌≤◌, ℕ, ◌+◌, ◌<◌, Bool, true, false, cond, List, [], ◌∷◌, ◌++◌, length, map, get_or, take, drop, Some, None, refl, sym, ap, ◌∙◌, arith, append_assoc, length-drop}
 use Rattle.std.proofs.lemmas.List.{append-nil, map_push, length-map, drop_more, take_more, length-take-le, nil_from_length}
 use Rattle.std.proofs.lemmas.List.Folds.{list_any_at}
 use Rattle.std.proofs.lemmas.List.Quantifiers.{all_pairs_push}
@@ -7,23 +7,14 @@ use Rattle.std.proofs.lemmas.Bool.{true≢false}
 use Rattle.std.proofs.lemmas.Cmp.{nat_list_eq_equiv}
 use Rattle.std.proofs.lemmas.Option.{none-some}
 use Rattle.std.specs.List.{list_any, AllPairs}
-use Rattle.std.specs.Option.{is_some, option_copied}
 use Rattle.std.specs.Str.{bytes_eq}
 use Rattle.queue_config.specs.declared.config.Class.{Class}
-use Rattle.queue_config.specs.Kind.{is_among}
-use Rattle.queue_config.specs.Settings.{names_of, first_repeat, find_class}
+use Rattle.job_states.specs.Texts.{is_among}
+use Rattle.queue_config.specs.Names.{names_of, first_repeat}
 
 pub list_any-map : {X Y : Type 0} (f : X → Y) (p : Y → Bool) (xs : List X) → list_any p (map f xs) ≡ list_any (λ x. p (f x)) xs
 list_any-map f p [] = refl
 list_any-map f p (x ∷ xs) = rw (list_any-map f p xs) refl
-
-pub is_among-find_class : (name : List ℕ) (classes : List Class) → is_some (find_class name classes) ≡ is_among (names_of classes) name
-is_among-find_class name [] = refl
-is_among-find_class name (c ∷ cs) = elim (bytes_eq c.name name) as (λ b. is_some (cond b (Some c) (find_class name cs)) ≡ (b || is_among (names_of cs) name)) [ true ↦ refl | false ↦ is_among-find_class name cs ]
-
-pub is_some-copied : {X : Type 0} (r : Option (Bor X)) (o : Option X) → option_copied r ≡ o → is_some r ≡ is_some o
-is_some-copied None o is = rw (← is) refl
-is_some-copied (Some x) o is = rw (← is) refl
 
 -- one more name goes before
 pub repeat_on : (cs : List Class) (i : ℕ) (d c : Class) → i < length cs → c ≡ get_or cs i d → is_among (names_of (take i cs)) c.name ≡ false

@@ -1,17 +1,12 @@
 -- What is read of a value, by its kind. Members come in byte order of their keys.
-use Rattle.std.specs.Prelude.{ℕ, suc, ◌+◌, ◌&&◌, ℤ, pos, negsuc, Bool, nat_lt, nat_le, List, [], ◌∷◌, length, Option, Some, None, ok_or, Ok, if◌then◌else◌}
-use Rattle.std.specs.List.{list_any}
-use Rattle.std.specs.Str.{bytes_eq}
+use Rattle.std.specs.Prelude.{ℕ, suc, ◌+◌, ◌&&◌, ℤ, pos, int_le, unsigned_abs, nat_lt, List, [], ◌∷◌, Option, Some, None, ok_or, Ok, Err, if◌then◌else◌}
 use Rattle.toml.specs.Data.{Data, table, Items, no_items, item, Members, no_members, member, get_member, as_integer, as_str, as_array, as_table}
-use Rattle.queue_config.specs.declared.whole.Range.{Range}
-use Rattle.queue_config.specs.declared.whole.Whole.{Whole}
+use Rattle.job_states.specs.Judged.{◌>>=◌}
+use Rattle.job_states.specs.Length.{is_name}
+use Rattle.job_states.specs.Texts.{is_among}
 use Rattle.queue_config.specs.declared.fault.SettingsFault.TheVariants.{Refused}
-use Rattle.queue_config.specs.Fault.{Judged, ◌>>=◌, unknown, wrong_kind, not_allowed}
+use Rattle.queue_config.specs.Fault.{Judged, unknown, wrong_kind, not_allowed}
 use Rattle.queue_config.specs.Key.{key_in, element_of}
-use Rattle.queue_config.specs.Whole.{name_of, range_of}
-
-abbrev pub is_among : List (List ℕ) → List ℕ → Bool
-is_among texts text = list_any (λ known. bytes_eq known text) texts
 
 -- ---- the value at a key, where the table has it
 
@@ -49,19 +44,29 @@ section place keys d = members_in place (as_table d) >>= known place keys
 
 -- ---- whole numbers
 
-abbrev pub within : List ℕ → Range → ℤ → Judged ℕ
-within key range (negsuc n) = not_allowed key
-within key range (pos n) = if nat_lt n range.least then not_allowed key else (if nat_lt range.most n then not_allowed key else Ok n)
+abbrev pub within : List ℕ → ℤ → ℤ → ℤ → Judged ℤ
+within key least most n = if int_le least n && int_le n most then Ok n else not_allowed key
 
-abbrev pub whole_from : List ℕ → Range → Option ℤ → Judged ℕ
-whole_from key range None = wrong_kind key
-whole_from key range (Some n) = within key range n
+abbrev pub whole_from : List ℕ → ℤ → ℤ → Option ℤ → Judged ℤ
+whole_from key least most None = wrong_kind key
+whole_from key least most (Some n) = within key least most n
 
-abbrev pub whole_in : List ℕ → Whole → Data → Judged ℕ
-whole_in place key d = whole_from (key_in place (name_of key)) (range_of key) (as_integer d)
+abbrev pub whole_in : List ℕ → ℤ → ℤ → Data → Judged ℤ
+whole_in key least most d = whole_from key least most (as_integer d)
 
-unfoldable pub whole_at : List ℕ → Whole → Members → Judged ℕ
-whole_at place key ms = or_default (get_member (name_of key) ms) (range_of key).default (whole_in place key)
+-- from a least number to a greatest one, and what an absent key stands for
+unfoldable pub whole_at : (place key : List ℕ) → (least most default : ℤ) → Members → Judged ℤ
+whole_at place key least most default ms =
+    or_default (get_member key ms) default (whole_in (key_in place key) least most)
+
+abbrev pub counted : Judged ℤ → Judged ℕ
+counted (Ok n) = Ok (unsigned_abs n)
+counted (Err fault) = Err fault
+
+-- the same where no number is negative
+abbrev pub count_at : (place key : List ℕ) → (least most default : ℕ) → Members → Judged ℕ
+count_at place key least most default ms =
+    counted (whole_at place key (pos least) (pos most) (pos default) ms)
 
 -- ---- names
 
@@ -71,9 +76,8 @@ needed place key ms = ok_or (get_member key ms) (Refused 3 (key_in place key))
 abbrev pub text_in : List ℕ → Data → Judged (List ℕ)
 text_in key d = ok_or (as_str d) (Refused 4 key)
 
--- 1 to 128 bytes
 abbrev pub name_from : List ℕ → List ℕ → Judged (List ℕ)
-name_from key text = if nat_lt 0 (length text) && nat_le (length text) 128 then Ok text else not_allowed key
+name_from key text = if is_name text then Ok text else not_allowed key
 
 abbrev pub name_in : List ℕ → Data → Judged (List ℕ)
 name_in key d = text_in key d >>= name_from key

@@ -1,6 +1,9 @@
 pub mod Fault
 pub mod Key
+pub mod KeyText
 pub mod Kind
+pub mod Names
+pub mod Places
+pub mod Plain
 pub mod Ranges
 pub mod Settings
-pub mod Whole

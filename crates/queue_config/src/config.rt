@@ -1,11 +1,12 @@
+use crate::Classes;
 use cron_lines::Schedule;
 use job_states::{List, Name, Text};
 
 /// The settings. Times are in seconds, unless a name ends in `_ms`.
-#[derive(Debug, PartialEq, Eq, Drop)]
+#[derive(Drop)]
 pub struct Config {
     /// At most 1024, each with a name of its own.
-    pub classes: List<Class>,
+    pub classes: Classes,
     pub dispatcher: DispatcherKeys,
     /// At most 1024.
     pub errors: List<ErrorKeys>,
@@ -18,7 +19,7 @@ pub struct Config {
 }
 
 /// A class of jobs.
-#[derive(Debug, PartialEq, Eq, Drop)]
+#[derive(Drop)]
 pub struct Class {
     pub name: Name,
     pub limit: Option<Limit>,
@@ -27,7 +28,7 @@ pub struct Class {
 }
 
 /// At most `to` jobs of one key of the group at a time.
-#[derive(Debug, PartialEq, Eq, Drop)]
+#[derive(Drop)]
 pub struct Limit {
     pub group: Name,
     pub key: KeyFrom,
@@ -35,12 +36,12 @@ pub struct Limit {
     pub to: u32,
     /// 1 to 31536000.
     pub duration: u64,
-    /// Is a job discarded where the key is closed? Else it is blocked.
+    /// Is a job discarded where all permits of its key are taken? Else it is blocked.
     pub discard: bool,
 }
 
 /// Where a job's concurrency key comes from.
-#[derive(Debug, PartialEq, Eq, Drop)]
+#[derive(Drop)]
 pub enum KeyFrom {
     /// A text of 1 to 128 bytes.
     Fixed(Text),
@@ -49,7 +50,7 @@ pub enum KeyFrom {
 }
 
 /// What becomes of a job that raised one of these errors.
-#[derive(Debug, PartialEq, Eq, Drop)]
+#[derive(Drop)]
 pub struct Rule {
     /// 1 to 8 errors.
     pub list: List<Name>,
@@ -57,7 +58,7 @@ pub struct Rule {
 }
 
 /// What a rule does.
-#[derive(Clone, Copy, Debug, PartialEq, Eq)]
+#[derive(Clone, Copy)]
 pub enum RuleAct {
     Discard,
     Retry {
@@ -69,14 +70,14 @@ pub enum RuleAct {
 }
 
 /// An error, and the error that it is a kind of.
-#[derive(Debug, PartialEq, Eq, Drop)]
+#[derive(Drop)]
 pub struct ErrorKeys {
     pub name: Name,
     pub parent: Name,
 }
 
 /// How scheduled jobs are dispatched.
-#[derive(Clone, Copy, Debug, PartialEq, Eq)]
+#[derive(Clone, Copy)]
 pub struct DispatcherKeys {
     /// 1 to 500.
     pub batch_size: u64,
@@ -87,7 +88,7 @@ pub struct DispatcherKeys {
 }
 
 /// How many jobs are kept, and for how long those that finished.
-#[derive(Clone, Copy, Debug, PartialEq, Eq)]
+#[derive(Clone, Copy)]
 pub struct JobsKeys {
     /// 1 to 250000.
     pub kept_max: u64,
@@ -96,7 +97,7 @@ pub struct JobsKeys {
 }
 
 /// How often a process beats, and how long it counts as alive after a beat.
-#[derive(Clone, Copy, Debug, PartialEq, Eq)]
+#[derive(Clone, Copy)]
 pub struct ProcessKeys {
     /// 1 to 86400.
     pub heartbeat: u64,
@@ -105,7 +106,7 @@ pub struct ProcessKeys {
 }
 
 /// A task that comes round by its schedule.
-#[derive(Debug, PartialEq, Eq, Drop)]
+#[derive(Drop)]
 pub struct Task {
     pub key: Name,
     /// The class of its jobs.
@@ -120,7 +121,7 @@ pub struct Task {
 }
 
 /// An argument of a task's jobs.
-#[derive(Debug, PartialEq, Eq, Drop)]
+#[derive(Drop)]
 pub enum TaskArg {
     Text(Text),
     Whole(i64),
@@ -128,7 +129,7 @@ pub enum TaskArg {
 }
 
 /// A worker.
-#[derive(Debug, PartialEq, Eq, Drop)]
+#[derive(Drop)]
 pub struct Worker {
     /// A queue list: 1 to 64 items of 1 to 128 bytes.
     pub queues: List<Text>,

@@ -1,10 +1,10 @@
 ghost use Rattle.std.specs.Prelude.{◌≡◌};
 ghost use Rattle.queue_config.specs.declared.fault.SettingsFault.TheVariants.{NoMemory as OutOfMemory};
 
-use job_states::{NoMemory, Text};
+use crate::Key;
+use job_states::NoMemory;
 use std::alloc::{AllocError, AllocFailed};
-use std::error::Error;
-use std::fmt;
+use thiserror::Error;
 
 /// The numbers of what can be wrong.
 pub(crate) const NO_DOCUMENT: u8 = 1;
@@ -22,7 +22,7 @@ pub(crate) const REPEATED: u8 = 6;
 pub(crate) const TOO_LONG: u8 = 10;
 
 /// Why settings aren't accepted.
-#[derive(Debug, PartialEq, Eq, Drop)]
+#[derive(Debug, Drop, Error)]
 pub enum SettingsFault {
     /// The first thing that is wrong, and the key that it is about, as `classes[0].name`. The numbers are
     ///
@@ -33,21 +33,12 @@ pub enum SettingsFault {
     /// - 4: the value is of the wrong kind
     /// - 5: the value isn't allowed
     /// - 6: the name stands there before
-    Refused { number: u8, key: Text },
+    #[error("the settings are refused: {number} {key}")]
+    Refused { number: u8, key: Key },
     /// There was no memory.
+    #[error("out of memory")]
     NoMemory,
 }
-
-impl fmt::Display for SettingsFault {
-    fn fmt<W: fmt::Write>(&self, f: &mut fmt::Formatter<W>) -> fmt::Result {
-        match self {
-            SettingsFault::Refused { number, key } => write!(f, "{number} {}", key.as_str()),
-            SettingsFault::NoMemory => f.write_str("out of memory"),
-        }
-    }
-}
-
-impl Error for SettingsFault {}
 
 impl From<NoMemory> for SettingsFault {
     ghost from_gives = { λ _ e. e ≡ OutOfMemory };

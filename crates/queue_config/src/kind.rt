@@ -1,18 +1,16 @@
-ghost use Rattle.std.specs.Prelude.{◌≡◌, ◌≤◌, Some, length, map, option_map, IfOk};
+ghost use Rattle.std.specs.Prelude.{◌≡◌, ◌≤◌, ◌≤ℤ◌, pos, Some, length, map, option_map, IfOk};
 ghost use Rattle.toml.specs.Data.{get_member};
 ghost use Rattle.toml.specs.View.{view, table_view, items_view};
-ghost use Rattle.queue_config.specs.Fault.{Gives, GivesAs};
 ghost use Rattle.queue_config.specs.Key as written;
 ghost use Rattle.queue_config.specs.Kind as spec;
-ghost use Rattle.queue_config.specs.Ranges.{Between};
-ghost use Rattle.queue_config.specs.Whole.{range_of};
+ghost use Rattle.job_states.specs.Judged.{Gives, GivesAs};
 ghost use Rattle.job_states.specs.Length.{IsName};
+ghost use Rattle.job_states.specs.Texts.{is_among};
 
-use crate::SettingsFault;
 use crate::fault::{MISSING, NOT_ALLOWED, UNKNOWN, WRONG_KIND};
-use crate::key::key_in;
 use crate::whole::Whole;
-use job_states::{Name, NameFault, Text};
+use crate::{Key, SettingsFault};
+use job_states::{Name, NameFault};
 use std::alloc::Global;
 use toml::{Table, Value};
 
@@ -25,7 +23,7 @@ pub(crate) fn optional<'t>(table: &'t Table, key: &str) -> Option<&'t Value>
 
 /// Is it one of the keys?
 fn is_known(keys: &[&str], key: &str) -> bool
-    ensures { result ≡ spec.is_among (map (λ k. k.now) keys.now) key.now }
+    ensures { result ≡ is_among (map (λ k. k.now) keys.now) key.now }
 {
     keys.contains(&key)
 }
@@ -50,14 +48,14 @@ pub(crate) fn known(
     keys: &[&str],
     table: &Table,
 ) -> Result<(), SettingsFault>
-    ensures { GivesAs (λ _. table_view table.now) result
+    ensures { GivesAs SettingsFault.NoMemory (λ _. table_view table.now) result
         (spec.known place.now (map (λ k. k.now) keys.now) (table_view table.now)) }
 {
     match first_unknown(keys, table) {
         None => Ok(()),
         Some(key) => Err(SettingsFault::Refused {
             number: UNKNOWN,
-            key: key_in(alloc, place, key)?,
+            key: Key::in_table(alloc, place, key)?,
         }),
     }
 }
@@ -70,13 +68,13 @@ pub(crate) fn section<'t>(
     keys: &[&str],
     value: &'t Value,
 ) -> Result<&'t Table, SettingsFault>
-    ensures { GivesAs (λ t. table_view t.now) result
+    ensures { GivesAs SettingsFault.NoMemory (λ t. table_view t.now) result
         (spec.section place.now (map (λ k. k.now) keys.now) (view value.now)) }
 {
     match value.as_table() {
         None => Err(SettingsFault::Refused {
             number: WRONG_KIND,
-            key: Text::read(alloc, place)?,
+            key: Key::read(alloc, place)?,
         }),
         Some(table) => {
             known(alloc, place, keys, table)?;
@@ -85,39 +83,55 @@ pub(crate) fn section<'t>(
     }
 }
 
-fn whole_in(alloc: Global, place: &str, key: Whole, value: &Value) -> Result<u32, SettingsFault>
-    ensures given { Gives result (spec.whole_in place.now key (view value.now)) }
-    ensures range { IfOk result (Between (range_of key).least (range_of key).most) }
+fn whole_in(alloc: Global, place: &str, key: &Whole, value: &Value) -> Result<i64, SettingsFault>
+    ensures given { Gives SettingsFault.NoMemory result
+        (spec.whole_in (written.key_in place.now key.now.name.now) key.now.least key.now.most (view value.now)) }
+    ensures range { IfOk result (λ n. (key.now.least ≤ℤ n) × (n ≤ℤ key.now.most)) }
 {
-    let range = key.range();
     match value.as_integer() {
         None => Err(SettingsFault::Refused {
             number: WRONG_KIND,
-            key: key_in(alloc, place, key.name())?,
+            key: Key::in_table(alloc, place, key.name)?,
         }),
-        Some(n) if n >= i64::from(range.least) && n <= i64::from(range.most) => Ok(n as u32),
+        Some(n) if key.least <= n && n <= key.most => Ok(n),
         Some(_) => Err(SettingsFault::Refused {
             number: NOT_ALLOWED,
-            key: key_in(alloc, place, key.name())?,
+            key: Key::in_table(alloc, place, key.name)?,
         }),
     }
 }
 
 /// A whole number in its range.
 #[tactic(auto, unfolding(crate::specs::Kind::whole_at))]
-pub(crate) fn whole_at(
+fn whole_at(alloc: Global, place: &str, key: &Whole, table: &Table) -> Result<i64, SettingsFault>
+    requires least { key.now.least ≤ℤ key.now.default }
+    requires most { key.now.default ≤ℤ key.now.most }
+    ensures given { Gives SettingsFault.NoMemory result
+        (spec.whole_at place.now key.now.name.now key.now.least key.now.most key.now.default (table_view table.now)) }
+    ensures range { IfOk result (λ n. (key.now.least ≤ℤ n) × (n ≤ℤ key.now.most)) }
+{
+    match optional(table, key.name) {
+        None => Ok(key.default),
+        Some(value) => whole_in(alloc, place, key, value),
+    }
+}
+
+/// A whole number of a key that has no negative one.
+pub(crate) fn count_at(
     alloc: Global,
     place: &str,
-    key: Whole,
+    key: &Whole,
     table: &Table,
 ) -> Result<u64, SettingsFault>
-    ensures given { Gives result (spec.whole_at place.now key (table_view table.now)) }
-    ensures range { IfOk result (Between (range_of key).least (range_of key).most) }
+    requires sign { pos 0 ≤ℤ key.now.least }
+    requires least { key.now.least ≤ℤ key.now.default }
+    requires most { key.now.default ≤ℤ key.now.most }
+    ensures given { Gives SettingsFault.NoMemory result
+        (spec.counted (spec.whole_at place.now key.now.name.now key.now.least key.now.most key.now.default
+        (table_view table.now))) }
+    ensures range { IfOk result (λ n. (key.now.least ≤ℤ pos n) × (pos n ≤ℤ key.now.most)) }
 {
-    match optional(table, key.name()) {
-        None => Ok(u64::from(key.range().default)),
-        Some(value) => Ok(u64::from(whole_in(alloc, place, key, value)?)),
-    }
+    Ok(whole_at(alloc, place, key, table)?.unsigned_abs())
 }
 
 fn text_in<'t>(
@@ -126,20 +140,20 @@ fn text_in<'t>(
     key: &str,
     value: &'t Value,
 ) -> Result<&'t str, SettingsFault>
-    ensures { GivesAs (λ s. s.now) result
+    ensures { GivesAs SettingsFault.NoMemory (λ s. s.now) result
         (spec.text_in (written.key_in place.now key.now) (view value.now)) }
 {
     match value.as_str() {
         Some(text) => Ok(text),
         None => Err(SettingsFault::Refused {
             number: WRONG_KIND,
-            key: key_in(alloc, place, key)?,
+            key: Key::in_table(alloc, place, key)?,
         }),
     }
 }
 
 fn name_from(alloc: Global, place: &str, key: &str, text: &str) -> Result<Name, SettingsFault>
-    ensures given { Gives result (spec.name_from (written.key_in place.now key.now) text.now) }
+    ensures given { Gives SettingsFault.NoMemory result (spec.name_from (written.key_in place.now key.now) text.now) }
     ensures name { IfOk result IsName }
 {
     match Name::read(alloc, text) {
@@ -147,7 +161,7 @@ fn name_from(alloc: Global, place: &str, key: &str, text: &str) -> Result<Name, 
         Err(NameFault::NoMemory) => Err(SettingsFault::NoMemory),
         Err(NameFault::Empty | NameFault::TooLong { .. }) => Err(SettingsFault::Refused {
             number: NOT_ALLOWED,
-            key: key_in(alloc, place, key)?,
+            key: Key::in_table(alloc, place, key)?,
         }),
     }
 }
@@ -160,13 +174,13 @@ pub(crate) fn name_at(
     key: &str,
     table: &Table,
 ) -> Result<Name, SettingsFault>
-    ensures given { Gives result (spec.name_at place.now key.now (table_view table.now)) }
+    ensures given { Gives SettingsFault.NoMemory result (spec.name_at place.now key.now (table_view table.now)) }
     ensures name { IfOk result IsName }
 {
     match optional(table, key) {
         None => Err(SettingsFault::Refused {
             number: MISSING,
-            key: key_in(alloc, place, key)?,
+            key: Key::in_table(alloc, place, key)?,
         }),
         Some(value) => name_from(alloc, place, key, text_in(alloc, place, key, value)?),
     }
@@ -179,14 +193,14 @@ fn items_from<'t>(
     most: usize,
     items: &'t [Value],
 ) -> Result<&'t [Value], SettingsFault>
-    ensures given { GivesAs (λ v. items_view v.now) result
+    ensures given { GivesAs SettingsFault.NoMemory (λ v. items_view v.now) result
         (spec.items_from (written.key_in place.now key.now) most (Some (items_view items.now))) }
     ensures count { IfOk result (λ v. length v.now ≤ most) }
 {
     if items.len() > most {
         return Err(SettingsFault::Refused {
             number: NOT_ALLOWED,
-            key: key_in(alloc, place, key)?,
+            key: Key::in_table(alloc, place, key)?,
         });
     }
     Ok(items)
@@ -199,14 +213,14 @@ fn items_in<'t>(
     most: usize,
     value: &'t Value,
 ) -> Result<&'t [Value], SettingsFault>
-    ensures given { GivesAs (λ v. items_view v.now) result
+    ensures given { GivesAs SettingsFault.NoMemory (λ v. items_view v.now) result
         (spec.items_in (written.key_in place.now key.now) most (view value.now)) }
     ensures count { IfOk result (λ v. length v.now ≤ most) }
 {
     match value.as_array() {
         None => Err(SettingsFault::Refused {
             number: WRONG_KIND,
-            key: key_in(alloc, place, key)?,
+            key: Key::in_table(alloc, place, key)?,
         }),
         Some(items) => items_from(alloc, place, key, most, items),
     }
@@ -221,7 +235,7 @@ pub(crate) fn items_at<'t>(
     most: usize,
     table: &'t Table,
 ) -> Result<&'t [Value], SettingsFault>
-    ensures given { GivesAs (λ v. items_view v.now) result
+    ensures given { GivesAs SettingsFault.NoMemory (λ v. items_view v.now) result
         (spec.items_at place.now key.now most (table_view table.now)) }
     ensures count { IfOk result (λ v. length v.now ≤ most) }
 {

@@ -2,6 +2,7 @@
 #![tactic(auto)]
 
 mod array;
+mod classes;
 mod config;
 mod fault;
 mod key;
@@ -12,8 +13,10 @@ mod tables;
 mod tests;
 mod whole;
 
+pub use classes::Classes;
 pub use config::{
     Class, Config, DispatcherKeys, ErrorKeys, JobsKeys, KeyFrom, Limit, ProcessKeys, Rule, RuleAct,
     Task, TaskArg, Worker,
 };
 pub use fault::SettingsFault;
+pub use key::Key;

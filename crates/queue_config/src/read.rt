@@ -1,64 +1,28 @@
-ghost use Rattle.std.specs.Prelude.{◌≡◌, ◌≢◌, [], codes, option_copied, IfOk, OnOk, AllPairs};
-ghost use Rattle.toml.specs.View.{table_view};
-ghost use Rattle.queue_config.specs.Fault.{Gives, GivesAs};
-ghost use Rattle.queue_config.specs.Kind.{is_among};
-ghost use Rattle.queue_config.specs.Ranges.{AreWorkers, IsConfig};
+ghost use Rattle.std.specs.Prelude.{◌≡◌, ◌<◌, ◌≤◌, length, codes, option_copied, All, IfOk};
+ghost use Rattle.toml.specs.Data as toml;
+ghost use Rattle.toml.specs.Data.{get_member};
+ghost use Rattle.toml.specs.View.{view, table_view};
+ghost use Rattle.queue_config.specs.Kind.{or_empty};
+ghost use Rattle.job_states.specs.Judged.{Gives, GivesAs};
+ghost use Rattle.queue_config.specs.Fault.{too_long};
+ghost use Rattle.queue_config.specs.Names.{find_class};
+ghost use Rattle.queue_config.specs.Plain.{IsPlainClass};
+ghost use Rattle.queue_config.specs.Ranges.{AreWorkers, IsConfig, IsDispatcher, IsJobs, IsProcesses};
 ghost use Rattle.queue_config.specs.Settings as spec;
 
 use crate::array::elements;
-use crate::fault::{NO_DOCUMENT, REPEATED, TOO_LONG};
-use crate::key::{element_of, key_in};
+use crate::fault::{NO_DOCUMENT, TOO_LONG};
 use crate::kind::{items_at, known, optional};
 use crate::tables::{dispatcher_of, jobs_of, processes_of};
-use crate::{Class, Config, SettingsFault, Worker};
+use crate::{
+    Class, Classes, Config, DispatcherKeys, JobsKeys, Key, ProcessKeys, SettingsFault, Worker,
+};
 use job_states::{List, Name, NoMemory, Text};
 use std::alloc::Global;
 use toml::{Table, Value};
 
 /// The greatest number of classes.
 const MOST: usize = 1024;
-
-/// The class of a name.
-fn find_class<'c>(name: &Name, classes: &'c [Class]) -> Option<&'c Class>
-    ensures { option_copied result ≡ spec.find_class name.now classes.now }
-{
-    classes.iter().find(|class| class.name == *name)
-}
-
-/// Has one of the classes this name?
-fn is_declared(name: &Name, classes: &[Class]) -> bool
-    ensures { result ≡ is_among (spec.names_of classes.now) name.now }
-{
-    find_class(name, classes).is_some()
-}
-
-/// The place of the first class whose name stands before it too.
-fn first_repeat(classes: &[Class]) -> Option<usize>
-    ensures { result ≡ spec.first_repeat [] (spec.names_of classes.now) }
-{
-    for (i, class) in classes.iter().enumerate() {
-        if is_declared(&class.name, &classes[..i]) {
-            return Some(i);
-        }
-    }
-    None
-}
-
-/// The classes, where no two have one name.
-#[tactic(auto, unfolding(crate::specs::Settings::distinct))]
-fn distinct(alloc: Global, classes: List<Class>) -> Result<List<Class>, SettingsFault>
-    ensures given { Gives result (spec.distinct (codes "classes") classes) }
-    ensures same { IfOk result (λ all. all ≡ classes) }
-    ensures names { OnOk result (AllPairs (λ a b. a ≢ b) (spec.names_of classes)) }
-{
-    match first_repeat(classes.as_slice()) {
-        None => Ok(classes),
-        Some(i) => Err(SettingsFault::Refused {
-            number: REPEATED,
-            key: key_in(alloc, element_of(alloc, "classes", i)?.as_str(), "name")?,
-        }),
-    }
-}
 
 /// One worker, which takes jobs of any queue.
 fn default_workers(alloc: Global) -> Result<List<Worker>, NoMemory>
@@ -74,9 +38,45 @@ fn default_workers(alloc: Global) -> Result<List<Worker>, NoMemory>
     Ok(List::of(vec![in alloc; worker]?))
 }
 
+/// The table at a key; an absent one is empty.
+fn table<'t>(top: &'t Table, key: &str, empty: &'t Value) -> &'t Value
+    requires { view empty.now ≡ toml.table toml.no_members }
+    ensures { view result.now ≡ or_empty (get_member key.now (table_view top.now)) }
+{
+    optional(top, key).unwrap_or(empty)
+}
+
+/// The settings of these tables, which are judged together once each is read.
+#[tactic(auto, unfolding(crate::specs::Settings::config_with))]
+fn config_with(
+    alloc: Global,
+    classes: List<Class>,
+    dispatcher: DispatcherKeys,
+    jobs: JobsKeys,
+    processes: ProcessKeys,
+) -> Result<Config, SettingsFault>
+    requires count { length classes ≤ 1024 }
+    requires classes { All IsPlainClass classes }
+    requires dispatcher { IsDispatcher dispatcher }
+    requires jobs { IsJobs jobs }
+    requires processes { IsProcesses processes }
+    ensures given { Gives SettingsFault.NoMemory result (spec.config_with classes dispatcher jobs processes) }
+    ensures ranges { IfOk result IsConfig }
+{
+    Ok(Config {
+        classes: Classes::of(alloc, classes)?,
+        dispatcher,
+        errors: List::of(Vec::new(alloc)),
+        jobs,
+        processes,
+        tasks: List::of(Vec::new(alloc)),
+        workers: default_workers(alloc)?,
+    })
+}
+
 #[tactic(auto, unfolding(crate::specs::Settings::settings_of))]
 fn settings_of(alloc: Global, top: &Table) -> Result<Config, SettingsFault>
-    ensures given { Gives result (spec.settings_of (table_view top.now)) }
+    ensures given { Gives SettingsFault.NoMemory result (spec.settings_of (table_view top.now)) }
     ensures ranges { IfOk result IsConfig }
 {
     known(
@@ -87,25 +87,15 @@ fn settings_of(alloc: Global, top: &Table) -> Result<Config, SettingsFault>
     )?;
     let empty = Value::Table(Table::new(alloc));
     let classes = elements(alloc, "classes", items_at(alloc, "", "classes", MOST, top)?)?;
-    let dispatcher = optional(top, "dispatcher").unwrap_or(&empty);
-    let dispatcher = dispatcher_of(alloc, "dispatcher", dispatcher)?;
-    let jobs = jobs_of(alloc, "jobs", optional(top, "jobs").unwrap_or(&empty))?;
-    let processes = optional(top, "processes").unwrap_or(&empty);
-    let processes = processes_of(alloc, "processes", processes)?;
-    Ok(Config {
-        classes: distinct(alloc, classes)?,
-        dispatcher,
-        errors: List::of(Vec::new(alloc)),
-        jobs,
-        processes,
-        tasks: List::of(Vec::new(alloc)),
-        workers: default_workers(alloc)?,
-    })
+    let dispatcher = dispatcher_of(alloc, "dispatcher", table(top, "dispatcher", &empty))?;
+    let jobs = jobs_of(alloc, "jobs", table(top, "jobs", &empty))?;
+    let processes = processes_of(alloc, "processes", table(top, "processes", &empty))?;
+    config_with(alloc, classes, dispatcher, jobs, processes)
 }
 
 /// The table of a TOML document.
 fn document_of(alloc: Global, text: &[u8]) -> Result<Table, SettingsFault>
-    ensures { GivesAs table_view result (spec.document_of text.now) }
+    ensures { GivesAs SettingsFault.NoMemory table_view result (spec.document_of text.now) }
 {
     match toml::table_from_slice(alloc, text) {
         Ok(table) => Ok(table),
@@ -115,7 +105,7 @@ fn document_of(alloc: Global, text: &[u8]) -> Result<Table, SettingsFault>
             } else {
                 Err(SettingsFault::Refused {
                     number: NO_DOCUMENT,
-                    key: Text::read(alloc, "document")?,
+                    key: Key::fixed("document"),
                 })
             }
         }
@@ -129,13 +119,15 @@ impl Config {
     /// The settings of a TOML document.
     #[tactic(auto, unfolding(crate::specs::Settings::config_of))]
     pub fn read(alloc: Global, text: &[u8]) -> Result<Self, SettingsFault>
-        ensures given { Gives result (spec.config_of text.now) }
+        ensures given { Gives SettingsFault.NoMemory result (spec.config_of text.now) }
+        // It takes no memory to refuse a text that is too long.
+        ensures long { 1_048_576 < length text.now → result ≡ too_long (codes "length") }
         ensures ranges { IfOk result IsConfig }
     {
         if text.len() > Config::MAX_LEN {
             return Err(SettingsFault::Refused {
                 number: TOO_LONG,
-                key: Text::read(alloc, "length")?,
+                key: Key::fixed("length"),
             });
         }
         settings_of(alloc, &document_of(alloc, text)?)
@@ -143,8 +135,8 @@ impl Config {
 
     /// The class of this name.
     pub fn class(&self, name: &Name) -> Option<&Class>
-        ensures { option_copied result ≡ spec.find_class name.now self.now.classes }
+        ensures { option_copied result ≡ find_class name.now self.now.classes }
     {
-        find_class(name, self.classes.as_slice())
+        self.classes.find(name)
     }
 }

@@ -1,12 +1,15 @@
 ghost use Rattle.toml.specs.View.{view};
 ghost use Rattle.std.specs.Prelude.{IfOk};
-ghost use Rattle.queue_config.specs.Fault.{Gives};
-ghost use Rattle.queue_config.specs.Ranges.{IsClass, IsDispatcher, IsJobs, IsProcesses};
+ghost use Rattle.job_states.specs.Judged.{Gives};
+ghost use Rattle.queue_config.specs.Ranges.{IsDispatcher, IsJobs, IsProcesses};
 ghost use Rattle.queue_config.specs.Settings as spec;
+ghost use Rattle.queue_config.specs.Plain.{IsPlainClass};
 
 use crate::array::Element;
-use crate::kind::{name_at, section, whole_at};
-use crate::whole::Whole;
+use crate::kind::{count_at, name_at, section};
+use crate::whole::{
+    ALIVE_THRESHOLD, BATCH_SIZE, CLEAR_AFTER, HEARTBEAT, KEPT_MAX, MAINTENANCE, POLLING_MS,
+};
 use crate::{Class, DispatcherKeys, JobsKeys, ProcessKeys, SettingsFault};
 use job_states::List;
 use std::alloc::Global;
@@ -15,7 +18,7 @@ use toml::Value;
 impl Element for Class {
     ghost judged = { spec.class_of };
 
-    ghost holds = { IsClass };
+    ghost holds = { IsPlainClass };
 
     #[tactic(auto, unfolding(crate::specs::Settings::class_of))]
     fn read(alloc: Global, place: &str, value: &Value) -> Result<Self, SettingsFault> {
@@ -28,38 +31,34 @@ impl Element for Class {
     }
 }
 
-#[tactic(auto, unfolding(crate::specs::Settings::dispatcher_of))]
+#[tactic(auto, unfolding(crate::specs::Settings::dispatcher_of, crate::specs::Kind::section))]
 pub(crate) fn dispatcher_of(
     alloc: Global,
     place: &str,
     value: &Value,
 ) -> Result<DispatcherKeys, SettingsFault>
-    ensures given { Gives result (spec.dispatcher_of place.now (view value.now)) }
+    ensures given { Gives SettingsFault.NoMemory result (spec.dispatcher_of place.now (view value.now)) }
     ensures ranges { IfOk result IsDispatcher }
 {
-    let keys = [
-        Whole::BatchSize.name(),
-        Whole::DispatcherPollingMs.name(),
-        Whole::Maintenance.name(),
-    ];
-    let table = section(alloc, place, &keys, value)?;
+    let keys = &[BATCH_SIZE.name, POLLING_MS.name, MAINTENANCE.name];
+    let table = section(alloc, place, keys, value)?;
     Ok(DispatcherKeys {
-        batch_size: whole_at(alloc, place, Whole::BatchSize, table)?,
-        polling_ms: whole_at(alloc, place, Whole::DispatcherPollingMs, table)?,
-        maintenance: whole_at(alloc, place, Whole::Maintenance, table)?,
+        batch_size: count_at(alloc, place, &BATCH_SIZE, table)?,
+        polling_ms: count_at(alloc, place, &POLLING_MS, table)?,
+        maintenance: count_at(alloc, place, &MAINTENANCE, table)?,
     })
 }
 
 #[tactic(auto, unfolding(crate::specs::Settings::jobs_of))]
 pub(crate) fn jobs_of(alloc: Global, place: &str, value: &Value) -> Result<JobsKeys, SettingsFault>
-    ensures given { Gives result (spec.jobs_of place.now (view value.now)) }
+    ensures given { Gives SettingsFault.NoMemory result (spec.jobs_of place.now (view value.now)) }
     ensures ranges { IfOk result IsJobs }
 {
-    let keys = [Whole::KeptMax.name(), Whole::ClearAfter.name()];
+    let keys = [KEPT_MAX.name, CLEAR_AFTER.name];
     let table = section(alloc, place, &keys, value)?;
     Ok(JobsKeys {
-        kept_max: whole_at(alloc, place, Whole::KeptMax, table)?,
-        clear_after: whole_at(alloc, place, Whole::ClearAfter, table)?,
+        kept_max: count_at(alloc, place, &KEPT_MAX, table)?,
+        clear_after: count_at(alloc, place, &CLEAR_AFTER, table)?,
     })
 }
 
@@ -69,13 +68,13 @@ pub(crate) fn processes_of(
     place: &str,
     value: &Value,
 ) -> Result<ProcessKeys, SettingsFault>
-    ensures given { Gives result (spec.processes_of place.now (view value.now)) }
+    ensures given { Gives SettingsFault.NoMemory result (spec.processes_of place.now (view value.now)) }
     ensures ranges { IfOk result IsProcesses }
 {
-    let keys = [Whole::Heartbeat.name(), Whole::AliveThreshold.name()];
+    let keys = [HEARTBEAT.name, ALIVE_THRESHOLD.name];
     let table = section(alloc, place, &keys, value)?;
     Ok(ProcessKeys {
-        heartbeat: whole_at(alloc, place, Whole::Heartbeat, table)?,
-        alive_threshold: whole_at(alloc, place, Whole::AliveThreshold, table)?,
+        heartbeat: count_at(alloc, place, &HEARTBEAT, table)?,
+        alive_threshold: count_at(alloc, place, &ALIVE_THRESHOLD, table)?,
     })
 }

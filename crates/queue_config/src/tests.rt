@@ -1,14 +1,15 @@
 use crate::*;
-use job_states::{List, Name, Text};
+use job_states::Name;
 use std::alloc::{AllocError, Global};
 use std::process::Abort;
 use std::test::Fail;
 
 /// The refusal, or the numbers in the order of their tables and the classes' names.
-fn told(alloc: Global, outcome: &Result<Config, SettingsFault>) -> Result<String, AllocError> {
+fn summary(alloc: Global, outcome: &Result<Config, SettingsFault>) -> Result<String, AllocError> {
     let config = match outcome {
         Ok(config) => config,
-        Err(fault) => return format!(in alloc; "{fault}"),
+        Err(SettingsFault::Refused { number, key }) => return format!(in alloc; "{number} {key}"),
+        Err(SettingsFault::NoMemory) => return "no memory".to_string(alloc),
     };
     let (dispatcher, jobs, processes) = (config.dispatcher, config.jobs, config.processes);
     let (batch, polling, maintenance) = (
@@ -30,12 +31,12 @@ fn told(alloc: Global, outcome: &Result<Config, SettingsFault>) -> Result<String
 
 fn expect(rt: &impl Abort, alloc: Global, text: &[u8], expected: &str) -> Result<(), AllocError> {
     let outcome = Config::read(alloc, text);
-    let found = told(alloc, &outcome)?;
+    let found = summary(alloc, &outcome)?;
     assert_eq!(rt; found.as_str(), expected);
     Ok(())
 }
 
-/// Settings with `;` for the ends of their lines, ` => `, and what is told of them.
+/// Settings with `;` for the ends of their lines, ` => `, and what comes of them.
 const SETTINGS: &str = r#" => 500 1000 600 250000 86400 60 300
 # only a comment => 500 1000 600 250000 86400 60 300
 classes = [] => 500 1000 600 250000 86400 60 300
@@ -149,25 +150,13 @@ fn lengths_end_where_they_should(rt: HostRuntime) -> Result<(), Fail> {
 fn a_class_is_found_by_its_whole_name(rt: HostRuntime) -> Result<(), Fail> {
     let alloc = rt.alloc();
     let config = Config::read(alloc, b"classes = [{ name = \"AB\" }, { name = \"B\" }]")?;
-    assert_eq!(rt;
-        config.class(&Name::read(alloc, "B")?),
-        config.classes.as_slice().get(1)
-    );
-    assert_eq!(rt; config.class(&Name::read(alloc, "A")?), None);
-    assert_eq!(rt; config.class(&Name::read(alloc, "ABC")?), None);
-    Ok(())
-}
-
-#[test]
-fn one_worker_takes_jobs_of_any_queue(rt: HostRuntime) -> Result<(), Fail> {
-    let alloc = rt.alloc();
-    let config = Config::read(alloc, b"")?;
-    let worker = Worker {
-        queues: List::of(vec![in alloc; Text::read(alloc, "*")?]?),
-        threads: 3,
-        claim: 1,
-        polling_ms: 100,
-    };
-    assert_eq!(rt; config.workers.as_slice(), [worker].as_slice());
+    for (name, found) in [("B", true), ("A", false), ("ABC", false)] {
+        let class = config.class(&Name::read(alloc, name)?);
+        assert_eq!(rt;
+            class.is_some_and(|class| class.name.as_str() == name),
+            found,
+            "{name}"
+        );
+    }
     Ok(())
 }

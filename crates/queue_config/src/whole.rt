@@ -1,67 +1,57 @@
-ghost use Rattle.std.specs.Prelude.{◌≡◌};
-
-/// The keys of whole numbers, table by table.
+/// A key of a whole number: its name, the least and the greatest number, and what it is where it is absent.
 #[derive(Clone, Copy)]
-pub(crate) enum Whole {
-    BatchSize,
-    DispatcherPollingMs,
-    Maintenance,
-    KeptMax,
-    ClearAfter,
-    Heartbeat,
-    AliveThreshold,
+pub(crate) struct Whole {
+    pub(crate) name: &'static str,
+    pub(crate) least: i64,
+    pub(crate) most: i64,
+    pub(crate) default: i64,
 }
 
-/// The numbers that a key may have, and what it is where it is absent.
-#[derive(Clone, Copy)]
-pub(crate) struct Range {
-    pub(crate) least: u32,
-    pub(crate) most: u32,
-    pub(crate) default: u32,
-}
+pub(crate) const BATCH_SIZE: Whole = Whole {
+    name: "batch_size",
+    least: 1,
+    most: 500,
+    default: 500,
+};
 
-impl Range {
-    ghost use Rattle.queue_config.specs.Whole.{between};
+pub(crate) const POLLING_MS: Whole = Whole {
+    name: "polling_ms",
+    least: 1,
+    most: 3_600_000,
+    default: 1000,
+};
 
-    fn new(least: u32, most: u32, default: u32) -> Self
-        ensures { result ≡ between least most default }
-    {
-        Range {
-            least,
-            most,
-            default,
-        }
-    }
-}
+pub(crate) const MAINTENANCE: Whole = Whole {
+    name: "maintenance",
+    least: 1,
+    most: 86_400,
+    default: 600,
+};
 
-impl Whole {
-    ghost use Rattle.queue_config.specs.Whole.{name_of, range_of};
+pub(crate) const KEPT_MAX: Whole = Whole {
+    name: "kept_max",
+    least: 1,
+    most: 250_000,
+    default: 250_000,
+};
 
-    pub(crate) fn name(self) -> &'static str
-        ensures { result.now ≡ name_of self }
-    {
-        match self {
-            Whole::BatchSize => "batch_size",
-            Whole::DispatcherPollingMs => "polling_ms",
-            Whole::Maintenance => "maintenance",
-            Whole::KeptMax => "kept_max",
-            Whole::ClearAfter => "clear_after",
-            Whole::Heartbeat => "heartbeat",
-            Whole::AliveThreshold => "alive_threshold",
-        }
-    }
+pub(crate) const CLEAR_AFTER: Whole = Whole {
+    name: "clear_after",
+    least: 0,
+    most: 31_536_000,
+    default: 86_400,
+};
 
-    pub(crate) fn range(self) -> Range
-        ensures { result ≡ range_of self }
-    {
-        match self {
-            Whole::BatchSize => Range::new(1, 500, 500),
-            Whole::DispatcherPollingMs => Range::new(1, 3_600_000, 1000),
-            Whole::Maintenance => Range::new(1, 86_400, 600),
-            Whole::KeptMax => Range::new(1, 250_000, 250_000),
-            Whole::ClearAfter => Range::new(0, 31_536_000, 86_400),
-            Whole::Heartbeat => Range::new(1, 86_400, 60),
-            Whole::AliveThreshold => Range::new(1, 86_400, 300),
-        }
-    }
-}
+pub(crate) const HEARTBEAT: Whole = Whole {
+    name: "heartbeat",
+    least: 1,
+    most: 86_400,
+    default: 60,
+};
+
+pub(crate) const ALIVE_THRESHOLD: Whole = Whole {
+    name: "alive_threshold",
+    least: 1,
+    most: 86_400,
+    default: 300,
+};

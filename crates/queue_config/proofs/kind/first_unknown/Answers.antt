@@ -1,6 +1,6 @@
 use Rattle.std.proofs.Common.{◌≡◌, List, ℕ, true, false, string_bytes, map, Some, sym, ap, ◌∙◌}
 use Rattle.toml.specs.View.{view, members_view}
-use Rattle.queue_config.specs.Kind.{is_among}
+use Rattle.job_states.specs.Texts.{is_among}
 use Rattle.queue_config.proofs.KeyLemmas.{goes_on, stops, is_done}
 use Rattle.queue_config.proofs.kind.first_unknown.Goals as goal
 

@@ -1,4 +1,4 @@
-use Rattle.std.proofs.Common.{true≢false, refl, sym, ◌∙◌}
+use Rattle.std.proofs.Common.{true≢false, inr, refl, sym, ◌∙◌}
 use Rattle.std.proofs.lemmas.Str.{is_utf8-from_IsUtf8}
 use Rattle.queue_config.proofs.DocumentLemmas.{document_of-refused}
 use Rattle.queue_config.proofs.read.document_of.Goals as goal
@@ -6,5 +6,5 @@ use Rattle.queue_config.proofs.read.document_of.Goals as goal
 pub returns-in-Ok : goal.returns-in-Ok
 returns-in-Ok c = rw (is_utf8-from_IsUtf8 c.args.text.now c.in-Ok.ensures.ok.0, c.in-Ok.ensures.ok.1) refl
 
-pub returns-in_ok-read-in-Err : goal.returns-in_ok-read-in-Err
-returns-in_ok-read-in-Err c = rw c.in_ok-read-in-Err.ensures (document_of-refused c.args.text.now _ refl (c.in-Err.ensures.refused (λ memory. true≢false (sym (c.is_memory.ensures.1 memory) ∙ c.if-is_memory.false))))
+pub returns-else-is_memory : goal.returns-else-is_memory
+returns-else-is_memory c = rw c.fixed.ensures (inr (document_of-refused c.args.text.now _ refl (c.in-Err.ensures.refused (λ memory. true≢false (sym (c.is_memory.ensures.1 memory) ∙ c.if-is_memory.false)))))
