@@ -10,16 +10,16 @@ use Rattle.std.specs.Result.{IsOk, MatchResult}
 use Rattle.std.proofs.lemmas.Str.{IsUtf8-from_ascii}
 use Rattle.std.proofs.lemmas.Str.Parse.{IsDigitsTest, IsNumeralModel, numerals_by_value, parse_gives, digits_value_short}
 
-tells : IsDigitsTest (λ text. list_all is_ascii_digit text ≡ true)
-tells = search rules
+tests : IsDigitsTest (λ text. list_all is_ascii_digit text ≡ true)
+tests = search rules
 
 own : IsNumeralModel (λ text. list_all is_ascii_digit text ≡ true) (digits_value 10)
-own = numerals_by_value _ tells
+own = numerals_by_value _ tests
 
 ascii_digits : (text : List ℕ) → list_all is_ascii_digit text ≡ true → IsAscii text
 ascii_digits [] digits i = lit< tt
-ascii_digits (c ∷ text) digits zero = let parts = tells.parts c text digits in omega (arith, parts.0)
-ascii_digits (c ∷ text) digits (suc i) = ascii_digits text (tells.parts c text digits).1 i
+ascii_digits (c ∷ text) digits zero = let parts = tests.parts c text digits in omega (arith, parts.0)
+ascii_digits (c ∷ text) digits (suc i) = ascii_digits text (tests.parts c text digits).1 i
 
 utf8_digits : (text : List ℕ) → list_all is_ascii_digit text ≡ true → IsUtf8 text
 utf8_digits text digits = IsUtf8-from_ascii text (ascii_digits text digits)

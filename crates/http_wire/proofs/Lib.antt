@@ -1,10 +1,11 @@
 pub mod Appended
 pub mod Digits
 pub mod Fields
-pub mod Filled
 pub mod HeadLemmas
+pub mod Judged
+pub mod PrefixLemmas
+pub mod ReadLemmas
 pub mod Reasons
-pub mod Rest
-pub mod Taken
+pub mod StepLemmas
+pub mod StreamLaws
 pub mod Token
-pub mod Whole

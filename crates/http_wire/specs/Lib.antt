@@ -1,5 +1,6 @@
 pub mod Ahead
-pub mod Front
 pub mod Head
+pub mod Limits
+pub mod Reading
 pub mod Reply
 pub mod Stream

@@ -36,9 +36,9 @@ head_text reply =
 abbrev pub reply_text : Reply → List ℕ
 reply_text reply = head_text reply ++ body_bytes reply.body
 
--- known bytes grow by a front of bytes
-pub record AppendsFront (old new : Option (List ℕ)) (bytes : List ℕ) : Type 0 where
-  pub front : List ℕ
-  pub back : List ℕ
-  pub whole : bytes ≡ front ++ back
-  pub added : Appends old new front
+-- known bytes grow by a prefix of bytes
+pub record AppendsPrefix (old new : Option (List ℕ)) (bytes : List ℕ) : Type 0 where
+  pub prefix : List ℕ
+  pub rest : List ℕ
+  pub parts : bytes ≡ prefix ++ rest
+  pub added : Appends old new prefix

@@ -1,236 +1,273 @@
-ghost use Rattle.std.specs.Prelude.{◌≡◌, ◌<◌, ◌≤◌, ◌+◌, ◌++◌, [], length, take, drop, vec_len, true, false, IfOk, IfErr, IfSome, IfNone, OnSome};
-ghost use Rattle.std.specs.Io.KnownBytes.{Consumes};
-ghost use Rattle.std.specs.List.{list_all};
-ghost use Rattle.http_wire.specs.Stream.{is_line_byte, IsEnd, Known, HasTaken, HasReadCause, HasReadAheadCause};
+ghost use Rattle.std.specs.Prelude.{◌≡◌};
+ghost use Rattle.http_wire.specs.Limits.{head_limit};
+ghost use Rattle.http_wire.specs.Stream.{over_after};
 
+use crate::buffer::Buffer;
 use crate::head::{Head, read_head_at};
-use crate::{MAX_HEAD, MAX_INPUT, WireFault};
-use sq_outside::{Failed, Source};
+use crate::read::{is_blank, read_body, skip_line_ends};
+use crate::{MAX_HEAD, MAX_INPUT, Request, WireFault};
+use job_states::Bytes;
+use sq_outside::Source;
 use std::alloc::Global;
 use std::marker::Model;
 
-// How much is read at a time.
-const CHUNK: usize = 8192;
+// Why reading on for a head paused.
+#[derive(Clone, Copy)]
+enum Pause {
+    Line,
+    End,
+    Fault,
+}
 
-/// What was read ahead of a stream, and where it stands there: nothing that was read is lost between two requests.
+/// What was read ahead of a stream, and where it stands there: nothing that was read is lost between two requests. After a fault
+/// other than want of memory the stream is over.
 #[derive(Drop)]
 pub struct Carry {
-    ahead: Vec<u8>,
+    ahead: Buffer,
     at: u64,
+    over: Option<WireFault>,
 }
 
 impl Model for Carry {
     ghost use Rattle.std.specs.Prelude.{◌+◌, ◌≤◌, length};
     ghost use Rattle.http_wire.specs.Ahead.{Ahead};
-    ghost use Rattle.http_wire.specs.declared.request.TheConstants.{MAX_INPUT};
+    ghost use Rattle.http_wire.specs.Limits.{input_limit};
 
     ghost Value = { Ahead };
 
-    ghost view = { λ c. record { bytes = c.ahead.items; at = c.at } };
+    ghost view = { λ c. record { bytes = c.ahead; at = c.at; over = c.over } };
 
-    ghost invariant = { λ c. c.at + length c.ahead.items ≤ MAX_INPUT };
+    ghost invariant = { λ c. c.at + length c.ahead ≤ input_limit };
 }
 
 impl Carry {
-    ghost use Rattle.std.specs.Prelude.{◌≡◌, ◌≢◌, ◌≤◌, ◌<◌, ◌+◌, ◌++◌, [], ℕ, List, Option, length, drop, Bool, true, false, take, IfOk, IfErr, IfSome, IfNone, OnOk, ◌⊎◌};
-    ghost use Rattle.std.specs.Bool.{MatchBool};
-    ghost use Rattle.std.specs.Io.KnownBytes.{Keeps};
-    ghost use Rattle.http_wire.specs.Front.{IsOpen, IsHeadOf, HasHeadCause};
-    ghost use Rattle.http_wire.specs.Stream.{rest_of, taken_of, Known, IsEnd, GoesOn, HeadAhead, EndsIn, HasTaken, HasCause, HasBodyCause, HasFillCause};
+    ghost use Rattle.std.specs.Prelude.{◌≡◌, ◌≢◌, ◌≤◌, ◌<◌, ◌+◌, ◌⊎◌, [], length, take, false, None, IfOk, IfErr, IfSome, IfNone};
+    ghost use Rattle.http_wire.specs.Limits.{head_limit, input_limit};
+    ghost use Rattle.sq_outside.specs.Streams.{SourceState};
+    ghost use Rattle.http_wire.specs.Stream.{IsEnd, IsOpen, IsUnfinished, Input, input_of, taken_of, ReadsNext, FailsWith, over_after};
+    ghost use Rattle.http_wire.specs.Reading.{IsHeadOf, HasHeadCause, IsRefusalAt, FindsHead, ReadsOn, EndsAhead, TakesBody};
 
-    /// At the front of a stream, with nothing read.
+    /// At the start of a stream, with nothing read.
     pub fn new(alloc: Global) -> Self
-        ensures { result ≡ record { bytes = []; at = 0 } }
+        ensures { result ≡ record { bytes = []; at = 0; over = None } }
     {
         Carry {
-            ahead: Vec::new(alloc),
+            ahead: Buffer::new(alloc),
             at: 0,
+            over: None,
         }
     }
 
-    /// Reads more of the stream. Was there more?
-    pub(crate) fn fill<S: Source>(&mut self, source: &mut S) -> Result<bool, WireFault>
-        ensures place { self.new.at ≡ self.old.at }
-        ensures rest { IfOk result (λ _. Keeps (rest_of self.old (S.left source.old)) (rest_of self.new (S.left source.new))) }
-        ensures more { IfOk result (λ more. MatchBool more (length self.old.bytes < length self.new.bytes) (self.new.bytes ≡ self.old.bytes)) }
-        ensures end { IfOk result (λ more. more ≡ false → Known (S.left source.old) (S.left source.new) (λ old new. (old ≡ []) × (new ≡ []))) }
-        ensures fault { IfErr result (HasFillCause self.old (S.left source.old) (S.faults source.old) (S.faults source.new)) }
-        ensures count { S.faults source.old ≤ S.faults source.new }
-        ensures taken { HasTaken (taken_of self.old) (S.left source.old) (S.left source.new) result }
+    /// The next request, or nothing where the stream is at its end.
+    pub(crate) fn next<S: Source>(
+        &mut self,
+        alloc: Global,
+        source: &mut S,
+    ) -> Result<Option<Request>, WireFault>
+        ensures answer { IfNone self.old.over (ReadsNext (input_of self.old (S.source_state source.old)) result (input_of self.new (S.source_state source.new))) }
+        ensures then { IfNone self.old.over (self.new.over ≡ over_after result) }
+        ensures over { IfSome self.old.over (λ fault. (result ≡ Err fault) × (input_of self.new (S.source_state source.new) ≡ input_of self.old (S.source_state source.old))) }
     {
-        let mut chunk = [0; CHUNK];
-        if self.ahead.reserve(CHUNK).is_err() {
-            return Err(WireFault::NoMemory);
+        if let Some(fault) = self.over {
+            return Err(fault);
         }
-        let n = read_some(source, self.taken(), &mut chunk)?;
-        match self.ahead.extend_from_slice(&chunk[..n]) {
-            Ok(()) => Ok(n > 0),
-            Err(_) => unreachable!(),
-        }
+        let answer = self.read_on(alloc, source);
+        self.over = ending_of(&answer);
+        answer
     }
 
-    /// The head of the next request, which stays ahead; nothing where the stream is at its end.
-    pub(crate) fn next_head<S: Source>(
+    fn read_on<S: Source>(
+        &mut self,
+        alloc: Global,
+        source: &mut S,
+    ) -> Result<Option<Request>, WireFault>
+        ensures { ReadsNext (input_of self.old (S.source_state source.old)) result (input_of self.new (S.source_state source.new)) }
+    {
+        let Some(head) = self.next_head(alloc, source)? else {
+            return Ok(None);
+        };
+        let body = self.take_body(alloc, source, &head)?;
+        Ok(Some(Request {
+            method: head.method,
+            path: head.path,
+            query: head.query,
+            body: Bytes::of(body),
+        }))
+    }
+
+    // The head of the next request, which stays ahead; nothing where the stream is at its end.
+    fn next_head<S: Source>(
         &mut self,
         alloc: Global,
         source: &mut S,
     ) -> Result<Option<Head>, WireFault>
-        ensures place { self.new.at ≡ self.old.at }
-        ensures head { IfOk result (λ answer. IfSome answer (λ head. HeadAhead self.old (S.left source.old) head self.new (S.left source.new))) }
-        ensures end { IfOk result (λ answer. IfNone answer (EndsIn self.old (S.left source.old) (S.left source.new))) }
-        ensures fault { IfErr result (HasCause self.old (S.left source.old) (S.faults source.old) (S.faults source.new)) }
-        ensures count { S.faults source.old ≤ S.faults source.new }
-        ensures taken { HasTaken (taken_of self.old) (S.left source.old) (S.left source.new) result }
+        ensures { FindsHead (input_of self.old (S.source_state source.old)) result (input_of self.new (S.source_state source.new)) }
     {
-        while self.ahead.len() < MAX_HEAD {
+        'lines: loop {
             if let Some(head) = self.head_ahead(alloc)? {
                 return Ok(Some(head));
             }
-            if !self.fill(source)? {
-                if is_blank(&self.ahead) {
-                    return Ok(None);
-                }
-                return Err(WireFault::BadRequest { at: self.at });
+            if self.ahead.as_slice().len() >= MAX_HEAD {
+                return self.end_in_full(alloc, source);
+            }
+            match self.read_on_for_head(source)? {
+                Pause::Line => {}
+                pause => return self.last_head(alloc, pause),
             }
         }
+    }
+
+    // Reads more for the head that is partly ahead, up to where a look at it is due. A head ends in a line feed, so none is due
+    // before one comes.
+    fn read_on_for_head<S: Source>(&mut self, source: &mut S) -> Result<Pause, WireFault>
+        requires short { length self.old.bytes < head_limit }
+        requires partly { IsUnfinished self.old.bytes }
+        ensures pause { IfOk result (λ pause. ReadsOn (input_of self.old (S.source_state source.old)) pause (input_of self.new (S.source_state source.new))) }
+        ensures fault { IfErr result (λ fault. FailsWith (input_of self.old (S.source_state source.old)) fault (input_of self.new (S.source_state source.new))) }
+    {
+        'pieces: loop {
+            let held = self.ahead.as_slice().len();
+            let taken = self.taken();
+            match self.ahead.fill(source, taken) {
+                Ok(true) => {}
+                Ok(false) => return Ok(Pause::End),
+                Err(fault) => match fault {
+                    WireFault::ReadFault => return Ok(Pause::Fault),
+                    _ => return Err(fault),
+                },
+            }
+            if self.is_look_due(held) {
+                return Ok(Pause::Line);
+            }
+        }
+    }
+
+    // Did a line end after the first `held` bytes, or is no more to be read before a look?
+    fn is_look_due(&self, held: usize) -> bool
+        requires { held ≤ length self.now.bytes }
+        ensures { result ≡ false → (length self.now.bytes < head_limit) × (taken_of self.now < input_limit) }
+    {
+        let ahead = self.ahead.as_slice();
+        ahead.len() >= MAX_HEAD || self.taken() >= MAX_INPUT || ahead[held..].contains(&b'\n')
+    }
+
+    // The head ahead, where no more comes.
+    fn last_head(&mut self, alloc: Global, pause: Pause) -> Result<Option<Head>, WireFault>
+        ensures { (old : Input) (source : SourceState) → ReadsOn old pause (input_of self.old source) → pause ≢ Pause.Line → FindsHead old result (input_of self.new source) }
+    {
         if let Some(head) = self.head_ahead(alloc)? {
             return Ok(Some(head));
         }
-        self.no_head_ahead(alloc, source)?;
-        Ok(None)
+        match pause {
+            Pause::Fault => Err(WireFault::ReadFault),
+            _ => self.end_ahead(),
+        }
     }
 
     // The head ahead, if it is there whole.
     fn head_ahead(&self, alloc: Global) -> Result<Option<Head>, WireFault>
-        ensures head { IfOk result (λ answer. IfSome answer (IsHeadOf (take MAX_HEAD self.now.bytes))) }
-        ensures none { IfOk result (λ answer. IfNone answer (IsEnd (take MAX_HEAD self.now.bytes) ⊎ IsOpen (take MAX_HEAD self.now.bytes))) }
-        ensures fault { IfErr result (λ fault. HasHeadCause self.now.at (take MAX_HEAD self.now.bytes) fault × ((IsEnd (take MAX_HEAD self.now.bytes)) → ⊥)) }
+        ensures head { IfOk result (λ answer. IfSome answer (IsHeadOf (take head_limit self.now.bytes))) }
+        ensures none { IfOk result (λ answer. IfNone answer (IsEnd (take head_limit self.now.bytes) ⊎ IsOpen (take head_limit self.now.bytes))) }
+        ensures fault { IfErr result (λ fault. HasHeadCause self.now.at (take head_limit self.now.bytes) fault × (IsEnd (take head_limit self.now.bytes) → ⊥)) }
     {
-        let front = self.front();
-        if is_blank(front) {
+        let prefix = self.prefix();
+        if is_blank(prefix) {
             return Ok(None);
         }
-        read_head_at(alloc, self.at, front)
+        read_head_at(alloc, self.at, prefix)
     }
 
     // As many of the bytes ahead as the longest head has.
-    fn front(&self) -> &[u8]
-        ensures bytes { result.now ≡ take MAX_HEAD self.now.bytes }
-        ensures short { length result.now ≤ MAX_HEAD }
+    fn prefix(&self) -> &[u8]
+        ensures bytes { result.now ≡ take head_limit self.now.bytes }
+        ensures short { length result.now ≤ head_limit }
     {
-        &self.ahead[..self.ahead.len().min(MAX_HEAD)]
+        let ahead = self.ahead.as_slice();
+        &ahead[..MAX_HEAD.min(ahead.len())]
+    }
+
+    // The source is at its end: so is the stream, or it is cut short.
+    fn end_ahead(&mut self) -> Result<Option<Head>, WireFault>
+        ensures { EndsAhead self.old result self.new }
+    {
+        if !is_blank(self.ahead.as_slice()) {
+            return Err(WireFault::BadRequest { at: self.at });
+        }
+        self.at = self.taken();
+        self.ahead.clear();
+        Ok(None)
     }
 
     // The longest head would be ahead, and none is: the stream is at its end, or is refused.
-    fn no_head_ahead<S: Source>(&self, alloc: Global, source: &mut S) -> Result<(), WireFault>
-        requires full { MAX_HEAD ≤ length self.now.bytes }
-        requires none { IsEnd (take MAX_HEAD self.now.bytes) ⊎ IsOpen (take MAX_HEAD self.now.bytes) }
-        ensures end { OnOk result (EndsIn self.now (S.left source.old) (S.left source.new)) }
-        ensures fault { IfErr result (HasCause self.now (S.left source.old) (S.faults source.old) (S.faults source.new)) }
-        ensures count { S.faults source.old ≤ S.faults source.new }
-        ensures taken { HasTaken (taken_of self.now) (S.left source.old) (S.left source.new) result }
+    fn end_in_full<S: Source>(
+        &mut self,
+        alloc: Global,
+        source: &mut S,
+    ) -> Result<Option<Head>, WireFault>
+        requires full { head_limit ≤ length self.old.bytes }
+        requires none { IsEnd (take head_limit self.old.bytes) ⊎ IsOpen (take head_limit self.old.bytes) }
+        ensures { FindsHead (input_of self.old (S.source_state source.old)) result (input_of self.new (S.source_state source.new)) }
     {
-        if !is_blank(self.front()) {
+        if !is_blank(self.prefix()) {
             return Err(long_head(self.at));
         }
-        if self.rest_is_blank(source)? {
-            return Ok(());
+        if !is_blank(self.ahead.as_slice()) {
+            return Err(self.fault_of_line_ends(alloc));
         }
-        Err(self.fault_of_line_ends(alloc))
-    }
-
-    // Are there nothing but line ends up to the end of the input?
-    fn rest_is_blank<S: Source>(&self, source: &mut S) -> Result<bool, WireFault>
-        ensures end { IfOk result (λ end. end ≡ true → EndsIn self.now (S.left source.old) (S.left source.new)) }
-        ensures more { IfOk result (λ end. end ≡ false → GoesOn self.now (S.left source.old)) }
-        ensures fault { IfErr result (HasCause self.now (S.left source.old) (S.faults source.old) (S.faults source.new)) }
-        ensures count { S.faults source.old ≤ S.faults source.new }
-        ensures taken { HasTaken (taken_of self.now) (S.left source.old) (S.left source.new) result }
-    {
-        if !is_blank(&self.ahead) {
-            return Ok(false);
-        }
-        skip_blank(source, self.taken())
+        let Some(taken) = skip_line_ends(source, self.taken())? else {
+            return Err(self.fault_of_line_ends(alloc));
+        };
+        self.at = taken;
+        self.ahead.clear();
+        Ok(None)
     }
 
     // What as many line ends as the longest head has bytes are refused as, where other bytes follow.
     fn fault_of_line_ends(&self, alloc: Global) -> WireFault
-        requires full { MAX_HEAD ≤ length self.now.bytes }
-        requires blank { IsEnd (take MAX_HEAD self.now.bytes) }
-        ensures cause { (left : Option (List ℕ)) (before after : ℕ) → GoesOn self.now left → HasCause self.now left before after result }
-        ensures within { result ≢ WireFault.InputTooLong }
+        requires full { head_limit ≤ length self.now.bytes }
+        requires blank { IsEnd (take head_limit self.now.bytes) }
+        ensures { IsRefusalAt self.now.at self.now.bytes result }
     {
-        match read_head_at(alloc, self.at, self.front()) {
+        match read_head_at(alloc, self.at, self.prefix()) {
             Err(fault) => fault,
             Ok(None) => long_head(self.at),
             Ok(Some(_)) => unreachable!(),
         }
     }
 
-    /// Takes a head of `len` bytes and the `n` bytes behind it off the stream, and gives the latter.
-    pub(crate) fn take_body<S: Source>(
+    // Takes the head that stands ahead and the body after it off the stream, and gives the body.
+    fn take_body<S: Source>(
         &mut self,
         alloc: Global,
         source: &mut S,
-        len: usize,
-        n: usize,
+        head: &Head,
     ) -> Result<Vec<u8>, WireFault>
-        requires { len ≤ length self.old.bytes }
-        ensures length { IfOk result (λ body. length body.items ≡ n) }
-        ensures place { IfOk result (λ _. self.new.at ≡ self.old.at + len + n) }
-        ensures within { self.new.at ≤ MAX_INPUT }
-        ensures rest { IfOk result (λ body. Known (rest_of self.old (S.left source.old)) (rest_of self.new (S.left source.new)) (λ bytes rest. drop len bytes ≡ body.items ++ rest)) }
-        ensures fault { IfErr result (HasBodyCause self.old (S.left source.old) (S.faults source.old) (S.faults source.new) len n) }
-        ensures count { S.faults source.old ≤ S.faults source.new }
-        ensures taken { HasTaken (taken_of self.old) (S.left source.old) (S.left source.new) result }
+        requires { IsHeadOf self.old.bytes head.now }
+        ensures body { IfOk result (λ body. TakesBody (input_of self.old (S.source_state source.old)) head.now body.items (input_of self.new (S.source_state source.new))) }
+        ensures fault { IfErr result (λ fault. FailsWith (input_of self.old (S.source_state source.old)) fault (input_of self.new (S.source_state source.new))) }
     {
-        let held = n.min(self.ahead.len() - len);
-        let ahead = &self.ahead[len..len + held];
-        let Some(body) = read_behind(alloc, source, self.taken(), ahead, n)? else {
+        let held = head.body.min(self.ahead.as_slice().len() - head.len);
+        let ahead = &self.ahead.as_slice()[head.len..head.len + held];
+        let Some(body) = read_body(alloc, source, self.taken(), ahead, head.body)? else {
             return Err(WireFault::BadRequest { at: self.at });
         };
-        drop_front(&mut self.ahead, len + held);
-        self.at += (len + n) as u64;
+        self.ahead.drop_prefix(head.len + held);
+        self.at += (head.len + head.body) as u64;
         Ok(body)
     }
 
     // How many bytes were taken from the input.
     fn taken(&self) -> u64
         ensures sum { result ≡ taken_of self.now }
-        ensures within { result ≤ MAX_INPUT }
+        ensures within { result ≤ input_limit }
     {
-        self.at + self.ahead.len() as u64
-    }
-}
-
-/// Reads some of the bytes from the place `taken` of the stream on, straight into `buf`; 0 is the end.
-pub(crate) fn read_some<S: Source>(
-    source: &mut S,
-    taken: u64,
-    buf: &mut [u8],
-) -> Result<usize, WireFault>
-    requires room { 0 < length buf.old }
-    requires within { taken ≤ MAX_INPUT }
-    ensures within { IfOk result (λ n. (n ≤ length buf.old) × (taken + n ≤ MAX_INPUT)) }
-    ensures bytes { IfOk result (λ n. Consumes (S.left source.old) (S.left source.new) (take n buf.new)) }
-    ensures behind { IfOk result (λ n. drop n buf.new ≡ drop n buf.old) }
-    ensures end { IfOk result (λ n. n ≡ 0 → IfSome (S.left source.old) (λ bytes. bytes ≡ [])) }
-    ensures fault { IfErr result (HasReadCause taken (S.left source.old) (S.faults source.old) (S.faults source.new)) }
-    ensures count { S.faults source.old ≤ S.faults source.new }
-    ensures taken { HasTaken taken (S.left source.old) (S.left source.new) result }
-{
-    let left = (MAX_INPUT - taken) as usize;
-    let room = buf.len().min(left.max(1));
-    match source.read(&mut buf[..room]) {
-        Ok(n) if n > left => Err(WireFault::InputTooLong),
-        Ok(n) => Ok(n),
-        Err(Failed) => Err(WireFault::ReadFault),
+        self.at + self.ahead.as_slice().len() as u64
     }
 }
 
 // What a head with no end within the longest one's length is refused as.
 fn long_head(at: u64) -> WireFault
-    ensures { result ≡ WireFault.TooLarge at MAX_HEAD }
+    ensures { result ≡ WireFault.TooLarge at head_limit }
 {
     WireFault::TooLarge {
         at,
@@ -238,111 +275,12 @@ fn long_head(at: u64) -> WireFault
     }
 }
 
-/// Are all of these bytes line ends?
-pub(crate) fn is_blank(bytes: &[u8]) -> bool
-    ensures { result ≡ list_all is_line_byte bytes.now }
+// The fault that each later call answers.
+fn ending_of(answer: &Result<Option<Request>, WireFault>) -> Option<WireFault>
+    ensures { result ≡ over_after answer.now }
 {
-    bytes.iter().all(|b| *b == b'\r' || *b == b'\n')
-}
-
-// The `n` bytes that begin with these and go on from the place `taken` of the stream, if there are as many.
-fn read_behind<S: Source>(
-    alloc: Global,
-    source: &mut S,
-    taken: u64,
-    ahead: &[u8],
-    n: usize,
-) -> Result<Option<Vec<u8>>, WireFault>
-    requires within { taken ≤ MAX_INPUT }
-    requires fits { length ahead.now ≤ n }
-    ensures length { IfOk result (λ whole. IfSome whole (λ body. length body.items ≡ n)) }
-    ensures within { IfOk result (λ whole. OnSome whole (taken + n ≤ MAX_INPUT + length ahead.now)) }
-    ensures bytes { IfOk result (λ whole. IfSome whole (λ body.
-        Known (S.left source.old) (S.left source.new) (λ old new. ahead.now ++ old ≡ body.items ++ new))) }
-    ensures short { IfOk result (λ whole. IfNone whole (IfSome (S.left source.old) (λ bytes. length ahead.now + length bytes < n))) }
-    ensures fault { IfErr result (HasReadAheadCause taken (S.left source.old) (S.faults source.old) (S.faults source.new)) }
-    ensures count { S.faults source.old ≤ S.faults source.new }
-    ensures taken { HasTaken taken (S.left source.old) (S.left source.new) result }
-{
-    let Ok(mut body) = vec![in alloc; 0; n] else {
-        return Err(WireFault::NoMemory);
-    };
-    if fill_behind(source, taken, ahead, &mut body)? {
-        Ok(Some(body))
-    } else {
-        Ok(None)
+    match answer {
+        Ok(_) | Err(WireFault::NoMemory) => None,
+        Err(fault) => Some(*fault),
     }
-}
-
-// Fills `buf` with these bytes and, behind them, those from the place `taken` of the stream on. Are there enough?
-fn fill_behind<S: Source>(
-    source: &mut S,
-    taken: u64,
-    ahead: &[u8],
-    buf: &mut [u8],
-) -> Result<bool, WireFault>
-    requires within { taken ≤ MAX_INPUT }
-    requires fits { length ahead.now ≤ length buf.old }
-    ensures within { IfOk result (λ whole. whole ≡ true → taken + length buf.old ≤ MAX_INPUT + length ahead.now) }
-    ensures bytes { IfOk result (λ whole. whole ≡ true → Known (S.left source.old) (S.left source.new) (λ old new. ahead.now ++ old ≡ buf.new ++ new)) }
-    ensures short { IfOk result (λ whole. whole ≡ false → IfSome (S.left source.old) (λ bytes. length ahead.now + length bytes < length buf.old)) }
-    ensures fault { IfErr result (HasReadAheadCause taken (S.left source.old) (S.faults source.old) (S.faults source.new)) }
-    ensures count { S.faults source.old ≤ S.faults source.new }
-    ensures taken { HasTaken taken (S.left source.old) (S.left source.new) result }
-{
-    let (front, rest) = buf.split_at_mut(ahead.len());
-    front.copy_from_slice(ahead);
-    fill_whole(source, taken, rest)
-}
-
-// Fills all of `buf` with the bytes from the place `taken` of the stream on. Are there enough?
-fn fill_whole<S: Source>(source: &mut S, taken: u64, buf: &mut [u8]) -> Result<bool, WireFault>
-    requires { taken ≤ MAX_INPUT }
-    ensures within { IfOk result (λ whole. whole ≡ true → taken + length buf.old ≤ MAX_INPUT) }
-    ensures bytes { IfOk result (λ whole. whole ≡ true → Consumes (S.left source.old) (S.left source.new) buf.new) }
-    ensures short { IfOk result (λ whole. whole ≡ false → IfSome (S.left source.old) (λ bytes. length bytes < length buf.old)) }
-    ensures fault { IfErr result (HasReadAheadCause taken (S.left source.old) (S.faults source.old) (S.faults source.new)) }
-    ensures count { S.faults source.old ≤ S.faults source.new }
-    ensures taken { HasTaken taken (S.left source.old) (S.left source.new) result }
-{
-    let mut done = 0;
-    while done < buf.len() {
-        let n = read_some(source, taken + done as u64, &mut buf[done..])?;
-        if n == 0 {
-            return Ok(false);
-        }
-        done += n;
-    }
-    Ok(true)
-}
-
-// Reads to the end of the source, or to the first byte that is no line end. Was it the end?
-fn skip_blank<S: Source>(source: &mut S, mut taken: u64) -> Result<bool, WireFault>
-    requires { taken ≤ MAX_INPUT }
-    ensures end { IfOk result (λ end. end ≡ true → Known (S.left source.old) (S.left source.new) (λ old new. IsEnd old × (new ≡ []))) }
-    ensures more { IfOk result (λ end. end ≡ false → IfSome (S.left source.old) (λ bytes. IsEnd bytes → ⊥)) }
-    ensures fault { IfErr result (HasReadAheadCause taken (S.left source.old) (S.faults source.old) (S.faults source.new)) }
-    ensures count { S.faults source.old ≤ S.faults source.new }
-    ensures taken { HasTaken taken (S.left source.old) (S.left source.new) result }
-{
-    let mut chunk = [0; CHUNK];
-    'line_ends: loop {
-        let n = read_some(source, taken, &mut chunk)?;
-        if n == 0 {
-            return Ok(true);
-        }
-        if !is_blank(&chunk[..n]) {
-            return Ok(false);
-        }
-        taken += n as u64;
-    }
-}
-
-fn drop_front(bytes: &mut Vec<u8>, n: usize)
-    requires { n ≤ vec_len bytes.old }
-    ensures { bytes.new.items ≡ drop n bytes.old.items }
-{
-    let rest = bytes.len() - n;
-    bytes.rotate_left(n);
-    bytes.truncate(rest);
 }

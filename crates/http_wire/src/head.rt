@@ -5,7 +5,9 @@ ghost use Rattle.httparse.specs.Grammar.{IsToken};
 ghost use Rattle.httparse.specs.Spans.{IsHeaderWithin, header_bytes};
 ghost use Rattle.http_wire.specs.Head as spec;
 ghost use Rattle.http_wire.specs.Head.{values_of, framed, is_path, path_of, query_of};
-ghost use Rattle.http_wire.specs.Front.{IsOpen, IsHeadOf, HasHeadCause};
+ghost use Rattle.http_wire.specs.Limits.{head_limit};
+ghost use Rattle.http_wire.specs.Stream.{IsOpen};
+ghost use Rattle.http_wire.specs.Reading.{IsHeadOf, HasHeadCause};
 
 use crate::WireFault;
 use http::Method;
@@ -26,7 +28,7 @@ pub const MAX_FIELDS: usize = 64;
 pub const MAX_BODY: u64 = 1_048_576;
 
 /// Why what stands on a stream isn't taken as a request.
-#[derive(Clone, Copy, Debug, PartialEq, Eq)]
+#[derive(Clone, Copy)]
 pub enum Refusal {
     /// It isn't a request, or is cut short.
     Bad,
@@ -53,7 +55,7 @@ impl Refusal {
     }
 }
 
-/// A head that stands at the front of some bytes.
+/// A head that some bytes begin with.
 #[derive(Drop)]
 pub(crate) struct Head {
     pub method: Method,
@@ -65,25 +67,25 @@ pub(crate) struct Head {
     pub body: usize,
 }
 
-/// The head at the front of the first bytes of a stream, which stand at the place `at`, or nothing where it has no end
+/// The head that the first bytes of a stream begin with, which stand at the place `at`, or nothing where it has no end
 /// there.
-pub(crate) fn read_head_at(alloc: Global, at: u64, front: &[u8]) -> Result<Option<Head>, WireFault>
-    requires { length front.now ≤ MAX_HEAD }
-    ensures head { IfOk result (λ answer. IfSome answer (IsHeadOf front.now)) }
-    ensures open { IfOk result (λ answer. IfNone answer (IsOpen front.now)) }
-    ensures fault { IfErr result (HasHeadCause at front.now) }
+pub(crate) fn read_head_at(alloc: Global, at: u64, prefix: &[u8]) -> Result<Option<Head>, WireFault>
+    requires { length prefix.now ≤ head_limit }
+    ensures head { IfOk result (λ answer. IfSome answer (IsHeadOf prefix.now)) }
+    ensures open { IfOk result (λ answer. IfNone answer (IsOpen prefix.now)) }
+    ensures fault { IfErr result (HasHeadCause at prefix.now) }
 {
     let mut spans = [EMPTY_HEADER_SPAN; MAX_FIELDS];
-    match parse_request(front, &mut spans) {
+    match parse_request(prefix, &mut spans) {
         Ok(Status::Complete(found)) => {
-            let target = found.path.of(front);
-            let body = match body_length(front, target, &spans[..found.headers]) {
+            let target = found.path.of(prefix);
+            let body = match body_length(prefix, target, &spans[..found.headers]) {
                 Ok(body) => body,
                 Err(refusal) => return Err(refusal.at(at)),
             };
             let (path, query) = split_target(alloc, target)?;
             Ok(Some(Head {
-                method: method_of(alloc, found.method.of(front))?,
+                method: method_of(alloc, found.method.of(prefix))?,
                 path,
                 query,
                 len: found.len,
@@ -106,7 +108,7 @@ fn method_of(alloc: Global, token: &[u8]) -> Result<Method, NoMemory>
     }
 }
 
-// The path, and the query behind its `?`.
+// The path, and the query after its `?`.
 fn split_target(alloc: Global, target: &[u8]) -> Result<(Text, Text), NoMemory>
     requires { IsUtf8 target.now }
     ensures path { IfOk result (λ parts. parts.0 ≡ path_of target.now) }
@@ -128,10 +130,10 @@ fn body_length(head: &[u8], target: &[u8], fields: &[HeaderSpan]) -> Result<u64,
     if first_named(head, fields, b"transfer-encoding").is_some() {
         return Err(Refusal::Unsupported);
     }
-    let Some((value, behind)) = first_named(head, fields, b"content-length") else {
+    let Some((value, after)) = first_named(head, fields, b"content-length") else {
         return Ok(0);
     };
-    if first_named(head, behind, b"content-length").is_some() {
+    if first_named(head, after, b"content-length").is_some() {
         return Err(Refusal::Bad);
     }
     match number_of(value) {
@@ -141,7 +143,7 @@ fn body_length(head: &[u8], target: &[u8], fields: &[HeaderSpan]) -> Result<u64,
     }
 }
 
-// The value of the first field of a name, and the fields behind it.
+// The value of the first field of a name, and the fields after it.
 fn first_named<'a, 'b>(
     head: &'a [u8],
     fields: &'b [HeaderSpan],

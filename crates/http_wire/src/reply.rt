@@ -1,17 +1,21 @@
-ghost use Rattle.std.specs.Prelude.{◌≡◌, ◌≤◌, [], length, unwrap_or, IsTrue, IfOk, OnOk, OnErr};
+ghost use Rattle.std.specs.Prelude.{◌≡◌, ◌≤◌, ◌++◌, [], length, unwrap_or, IsTrue, IfOk, IfSome, OnOk, OnErr};
 ghost use Rattle.http.specs.StatusCode.{reason_phrase};
 ghost use Rattle.std.specs.Io.KnownBytes.{Appends};
 ghost use Rattle.sq_outside.specs.Fault.{Rose};
-ghost use Rattle.http_wire.specs.Reply.{head_text, reply_text, is_reply_status, AppendsFront};
+ghost use Rattle.http_wire.specs.Reply.{head_text, reply_text, is_reply_status, AppendsPrefix};
 
-use arrayvec::ArrayString;
+use arrayvec::{ArrayString, ArrayVec};
 use http::StatusCode;
 use itoa::Buffer;
 use job_states::Bytes;
 use sq_outside::Sink;
+use thiserror::Error;
+
+// How many bytes are short enough to be put together on the stack.
+const ONE_PIECE: usize = 1152;
 
 /// A reply.
-#[derive(Debug, PartialEq, Eq, Drop)]
+#[derive(Drop)]
 pub struct Reply {
     /// 200, 201, 400, 404, 405, 409, 413, 422, 500, 501, 503 or 507.
     pub status: u16,
@@ -20,7 +24,7 @@ pub struct Reply {
 }
 
 /// What a body is.
-#[derive(Clone, Copy, Debug, PartialEq, Eq)]
+#[derive(Clone, Copy)]
 pub enum BodyKind {
     /// `application/json`
     Json,
@@ -45,7 +49,7 @@ impl BodyKind {
 }
 
 /// The body of a reply.
-#[derive(Debug, PartialEq, Eq, Drop)]
+#[derive(Drop)]
 pub enum Body {
     Kept(Bytes),
     /// `{"error":"disk_fault"}`, which takes no memory.
@@ -55,7 +59,8 @@ pub enum Body {
 }
 
 /// The sink failed, or took nothing.
-#[derive(Clone, Copy, Debug, PartialEq, Eq)]
+#[derive(Clone, Copy, Debug, Error)]
+#[error("the output failed, or took nothing")]
 pub struct WriteFault;
 
 impl Body {
@@ -77,14 +82,36 @@ impl Body {
 /// Writes a reply. It takes no memory.
 pub fn write_reply<K: Sink>(sink: &mut K, reply: &Reply) -> Result<(), WriteFault>
     requires { IsTrue (is_reply_status reply.now.status) }
-    ensures whole { OnOk result (Appends (K.written sink.old) (K.written sink.new) (reply_text reply.now)) }
-    ensures front { OnErr result (AppendsFront (K.written sink.old) (K.written sink.new) (reply_text reply.now)) }
-    ensures cause { OnErr result (Rose (K.faults sink.old) (K.faults sink.new)) }
-    ensures count { K.faults sink.old ≤ K.faults sink.new }
+    ensures whole { OnOk result (Appends (K.sink_state sink.old).written (K.sink_state sink.new).written (reply_text reply.now)) }
+    ensures prefix { OnErr result (AppendsPrefix (K.sink_state sink.old).written (K.sink_state sink.new).written (reply_text reply.now)) }
+    ensures cause { OnErr result (Rose (K.sink_state sink.old).faults (K.sink_state sink.new).faults) }
+    ensures count { (K.sink_state sink.old).faults ≤ (K.sink_state sink.new).faults }
 {
     let head = head_of(reply);
-    write_all(sink, head.as_str().as_bytes())?;
-    write_all(sink, reply.body.as_slice())
+    write_two(sink, head.as_str().as_bytes(), reply.body.as_slice())
+}
+
+// Writes two pieces: at once where they are short, since the second of two writes may wait for an answer to the first.
+fn write_two<K: Sink>(sink: &mut K, first: &[u8], second: &[u8]) -> Result<(), WriteFault>
+    ensures whole { OnOk result (Appends (K.sink_state sink.old).written (K.sink_state sink.new).written (first.now ++ second.now)) }
+    ensures prefix { OnErr result (AppendsPrefix (K.sink_state sink.old).written (K.sink_state sink.new).written (first.now ++ second.now)) }
+    ensures cause { OnErr result (Rose (K.sink_state sink.old).faults (K.sink_state sink.new).faults) }
+    ensures count { (K.sink_state sink.old).faults ≤ (K.sink_state sink.new).faults }
+{
+    if let Some(whole) = one_piece(first, second) {
+        return write_all(sink, whole.as_slice());
+    }
+    write_all(sink, first)?;
+    write_all(sink, second)
+}
+
+fn one_piece(first: &[u8], second: &[u8]) -> Option<ArrayVec<u8, ONE_PIECE>>
+    ensures { IfSome result (λ whole. whole.items ≡ first.now ++ second.now) }
+{
+    let mut whole = ArrayVec::new();
+    whole.try_extend_from_slice(first).ok()?;
+    whole.try_extend_from_slice(second).ok()?;
+    Some(whole)
 }
 
 // What stands before the body.
@@ -121,10 +148,10 @@ fn reason(status: u16) -> &'static str
 /// Writes all of a piece.
 #[tactic(auto, using(crate::proofs::Appended::writing))]
 pub fn write_all<K: Sink>(sink: &mut K, piece: &[u8]) -> Result<(), WriteFault>
-    ensures whole { OnOk result (Appends (K.written sink.old) (K.written sink.new) piece.now) }
-    ensures front { OnErr result (AppendsFront (K.written sink.old) (K.written sink.new) piece.now) }
-    ensures cause { OnErr result (Rose (K.faults sink.old) (K.faults sink.new)) }
-    ensures count { K.faults sink.old ≤ K.faults sink.new }
+    ensures whole { OnOk result (Appends (K.sink_state sink.old).written (K.sink_state sink.new).written piece.now) }
+    ensures prefix { OnErr result (AppendsPrefix (K.sink_state sink.old).written (K.sink_state sink.new).written piece.now) }
+    ensures cause { OnErr result (Rose (K.sink_state sink.old).faults (K.sink_state sink.new).faults) }
+    ensures count { (K.sink_state sink.old).faults ≤ (K.sink_state sink.new).faults }
 {
     let mut done = 0;
     while done < piece.len() {
@@ -142,7 +169,7 @@ pub fn write_all<K: Sink>(sink: &mut K, piece: &[u8]) -> Result<(), WriteFault>
 #[cfg(test)]
 mod tests {
     use super::*;
-    use sq_outside::{Failed, MemSink};
+    use sq_outside::{MemSink, Trickle};
     use std::test::Fail;
 
     const CREATED: &[u8] =
@@ -158,31 +185,15 @@ mod tests {
         })
     }
 
-    // Takes one byte at a time.
-    #[derive(Drop)]
-    struct Narrow(MemSink);
-
-    impl Sink for Narrow {
-        ghost use Rattle.std.specs.Prelude.{Some};
-
-        ghost written = { λ s. Some s.0.bytes };
-
-        ghost faults = { λ s. s.0.faults };
-
-        fn write(&mut self, piece: &[u8]) -> Result<usize, Failed> {
-            self.0.write(&piece[..piece.len().min(1)])
-        }
-    }
-
     #[test]
     fn a_reply_is_a_status_line_two_fields_and_a_body(rt: HostRuntime) -> Result<(), Fail> {
         let mut sink = MemSink::new(rt.alloc(), Vec::new(rt.alloc()));
         write_reply(&mut sink, &created(&rt)?)?;
         assert_eq!(rt; sink.bytes(), CREATED);
 
-        let mut narrow = Narrow(MemSink::new(rt.alloc(), Vec::new(rt.alloc())));
-        write_reply(&mut narrow, &created(&rt)?)?;
-        assert_eq!(rt; narrow.0.bytes(), CREATED);
+        let mut trickle = Trickle::new(MemSink::new(rt.alloc(), Vec::new(rt.alloc())), 1);
+        write_reply(&mut trickle, &created(&rt)?)?;
+        assert_eq!(rt; trickle.inner().bytes(), CREATED);
         Ok(())
     }
 
@@ -223,11 +234,19 @@ mod tests {
     }
 
     #[test]
-    fn a_write_that_fails_leaves_a_front(rt: HostRuntime) -> Result<(), Fail> {
-        for (call, kept) in [(1, 0), (2, CREATED.len() - 24)] {
+    fn a_short_reply_is_written_at_once(rt: HostRuntime) -> Result<(), Fail> {
+        let mut long = created(&rt)?;
+        long.body = Body::Kept(Bytes::read(rt.alloc(), &[b'x'; 2000])?);
+        for (reply, call, kept) in [
+            (&created(&rt)?, 1, Some(0)),
+            (&created(&rt)?, 2, None),
+            (&long, 1, Some(0)),
+            (&long, 2, Some(CREATED.len() - 24 + 2)),
+            (&long, 3, None),
+        ] {
             let mut sink = MemSink::new(rt.alloc(), vec![in rt.alloc(); call]?);
-            assert_eq!(rt; write_reply(&mut sink, &created(&rt)?), Err(WriteFault));
-            assert_eq!(rt; sink.bytes(), &CREATED[..kept]);
+            let failed = write_reply(&mut sink, reply).is_err();
+            assert_eq!(rt; failed.then_some(sink.bytes().len()), kept);
         }
         Ok(())
     }

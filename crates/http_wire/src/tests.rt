@@ -1,5 +1,5 @@
 use crate::{Carry, WireFault, read_request};
-use sq_outside::{Failed, MemSource, Source, SureSource};
+use sq_outside::{MemSource, Source, SureSource, Trickle};
 use std::alloc::Global;
 use std::test::Fail;
 
@@ -8,52 +8,35 @@ const GET: &[u8] = b"GET / HTTP/1.1\r\n\r\n";
 const POST: &[u8] =
     b"POST /jobs HTTP/1.1\r\nContent-Length: 31\r\n\r\n{\"job_class\":\"A\",\"job_id\":\"j1\"}";
 
-const TOLD_POST: &str = "POST [/jobs] [] [{\"job_class\":\"A\",\"job_id\":\"j1\"}], ";
-
-// Gives one byte at a time.
-#[derive(Drop)]
-struct Narrow(SureSource);
-
-impl Source for Narrow {
-    ghost use Rattle.std.specs.Prelude.{Some};
-
-    ghost left = { λ s. Some s.0 };
-
-    ghost faults = { λ _. 0 };
-
-    fn read(&mut self, buf: &mut [u8]) -> Result<usize, Failed> {
-        let room = buf.len().min(1);
-        self.0.read(&mut buf[..room])
-    }
-}
+const LISTED_POST: &str = "POST [/jobs] [] [{\"job_class\":\"A\",\"job_id\":\"j1\"}], ";
 
 // The requests of a stream and how it ends, as text.
-fn told<S: Source>(alloc: Global, source: &mut S) -> Result<String, Fail> {
+fn listed<S: Source>(alloc: Global, source: &mut S) -> Result<String, Fail> {
     let mut carry = Carry::new(alloc);
-    let mut told = String::new(alloc);
+    let mut listed = String::new(alloc);
     for _ in 0..9 {
         match read_request(alloc, source, &mut carry) {
             Ok(Some(request)) => {
                 let (method, path) = (request.method.as_str(), request.path.as_str());
                 let query = request.query.as_str();
                 let body = String::from_utf8_lossy(alloc, request.body.as_slice())?;
-                write!(told, "{method} [{path}] [{query}] [{body}], ")?;
+                write!(listed, "{method} [{path}] [{query}] [{body}], ")?;
             }
             Ok(None) => {
-                told.push_str("end")?;
+                listed.push_str("end")?;
                 break;
             }
             Err(fault) => {
-                write!(told, "{fault:?}")?;
+                write!(listed, "{fault:?}")?;
                 break;
             }
         }
     }
-    Ok(told)
+    Ok(listed)
 }
 
-fn told_of(alloc: Global, bytes: &[u8]) -> Result<String, Fail> {
-    told(alloc, &mut SureSource::new(Vec::from_slice(alloc, bytes)?))
+fn listed_of(alloc: Global, bytes: &[u8]) -> Result<String, Fail> {
+    listed(alloc, &mut SureSource::new(Vec::from_slice(alloc, bytes)?))
 }
 
 // A head that has no end yet, of this length.
@@ -63,9 +46,9 @@ fn open_head(alloc: Global, len: usize) -> Result<Vec<u8>, Fail> {
     Ok(head)
 }
 
-fn joined(alloc: Global, front: &[u8], back: &[u8]) -> Result<Vec<u8>, Fail> {
-    let mut whole = Vec::from_slice(alloc, front)?;
-    whole.extend_from_slice(back)?;
+fn joined(alloc: Global, first: &[u8], second: &[u8]) -> Result<Vec<u8>, Fail> {
+    let mut whole = Vec::from_slice(alloc, first)?;
+    whole.extend_from_slice(second)?;
     Ok(whole)
 }
 
@@ -141,7 +124,7 @@ fn heads_are_read_or_refused_at_their_place(rt: HostRuntime) -> Result<(), Fail>
         (b"\rGET / HTTP/1.1\r\n\r\n", "BadRequest { at: 0 }"),
     ] {
         let text = String::from_utf8_lossy(alloc, stream)?;
-        assert_eq!(rt; told_of(alloc, stream)?.as_str(), expected, "{text:?}");
+        assert_eq!(rt; listed_of(alloc, stream)?.as_str(), expected, "{text:?}");
     }
     Ok(())
 }
@@ -178,7 +161,11 @@ fn a_head_has_64_fields_and_16384_bytes_at_most(rt: HostRuntime) -> Result<(), F
         (joined(alloc, line_ends.as_bytes(), b"")?, "end"),
     ] {
         let len = stream.len();
-        assert_eq!(rt; told_of(alloc, &stream)?.as_str(), expected, "{len} bytes");
+        assert_eq!(rt;
+            listed_of(alloc, &stream)?.as_str(),
+            expected,
+            "{len} bytes"
+        );
     }
     Ok(())
 }
@@ -209,7 +196,7 @@ fn a_request_that_is_cut_is_refused(rt: HostRuntime) -> Result<(), Fail> {
             "BadRequest { at: 0 }"
         };
         assert_eq!(rt;
-            told_of(rt.alloc(), &POST[..len])?.as_str(),
+            listed_of(rt.alloc(), &POST[..len])?.as_str(),
             expected,
             "{len} bytes"
         );
@@ -220,10 +207,10 @@ fn a_request_that_is_cut_is_refused(rt: HostRuntime) -> Result<(), Fail> {
 #[test]
 fn pieces_of_one_byte_are_read_as_one_piece_is(rt: HostRuntime) -> Result<(), Fail> {
     let alloc = rt.alloc();
-    let front = joined(alloc, b"GET /a HTTP/1.1\r\n\r\n", POST)?;
-    let front = joined(alloc, &front, b"\r\nGET /b?x HTTP/1.1\r\n\r\n")?;
-    assert_eq!(rt; front.len(), 116);
-    for (back, end) in [
+    let requests = joined(alloc, b"GET /a HTTP/1.1\r\n\r\n", POST)?;
+    let requests = joined(alloc, &requests, b"\r\nGET /b?x HTTP/1.1\r\n\r\n")?;
+    assert_eq!(rt; requests.len(), 116);
+    for (rest, end) in [
         (b"".as_slice(), "end"),
         (b"\r\n\r\n", "end"),
         (b"GET / HTTP/1.1\r\n", "BadRequest { at: 116 }"),
@@ -237,11 +224,11 @@ fn pieces_of_one_byte_are_read_as_one_piece_is(rt: HostRuntime) -> Result<(), Fa
             "TooLarge { at: 116, len: 1048577 }",
         ),
     ] {
-        let expected = format!(in alloc; "GET [/a] [] [], {TOLD_POST}GET [/b] [x] [], {end}")?;
-        let stream = joined(alloc, &front, back)?;
-        assert_eq!(rt; told_of(alloc, &stream)?, expected);
+        let expected = format!(in alloc; "GET [/a] [] [], {LISTED_POST}GET [/b] [x] [], {end}")?;
+        let stream = joined(alloc, &requests, rest)?;
+        assert_eq!(rt; listed_of(alloc, &stream)?, expected);
         assert_eq!(rt;
-            told(alloc, &mut Narrow(SureSource::new(stream)))?,
+            listed(alloc, &mut Trickle::new(SureSource::new(stream), 1))?,
             expected
         );
     }
@@ -249,7 +236,7 @@ fn pieces_of_one_byte_are_read_as_one_piece_is(rt: HostRuntime) -> Result<(), Fa
 }
 
 #[test]
-fn a_read_that_fails_is_told(rt: HostRuntime) -> Result<(), Fail> {
+fn requests_before_a_read_that_fails_are_given(rt: HostRuntime) -> Result<(), Fail> {
     let alloc = rt.alloc();
     let long_body = open_head(alloc, 9000)?;
     let long_body = joined(
@@ -258,16 +245,23 @@ fn a_read_that_fails_is_told(rt: HostRuntime) -> Result<(), Fail> {
         &long_body,
     )?;
     let line_ends = "\r\n".repeat(alloc, 10_000)?;
-    for (stream, call, front) in [
+    let two = joined(alloc, GET, POST)?;
+    let listed_two = format!(in alloc; "GET [/] [] [], {LISTED_POST}")?;
+    for (stream, call, given) in [
         (POST, 1, ""),
-        (POST, 2, TOLD_POST),
+        (POST, 2, LISTED_POST),
+        (&two, 2, &listed_two),
         (&open_head(alloc, 9000)?, 2, ""),
         (&long_body, 2, ""),
         (line_ends.as_bytes(), 3, ""),
     ] {
         let mut source = MemSource::new(Vec::from_slice(alloc, stream)?, vec![in alloc; call]?);
-        let expected = format!(in alloc; "{front}{:?}", WireFault::ReadFault)?;
-        assert_eq!(rt; told(alloc, &mut source)?, expected);
+        let expected = format!(in alloc; "{given}{:?}", WireFault::ReadFault)?;
+        assert_eq!(rt; listed(alloc, &mut source)?, expected);
     }
+    // A whole request isn't kept waiting for one more byte.
+    let source = MemSource::new(Vec::from_slice(alloc, GET)?, vec![in alloc; 19]?);
+    let expected = format!(in alloc; "GET [/] [] [], {:?}", WireFault::ReadFault)?;
+    assert_eq!(rt; listed(alloc, &mut Trickle::new(source, 1))?, expected);
     Ok(())
 }

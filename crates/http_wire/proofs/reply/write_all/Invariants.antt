@@ -5,8 +5,8 @@ use Rattle.http_wire.proofs.reply.write_all.Given as goal
 abbrev pub invariant-loop-done : goal.invariant-loop-done
 invariant-loop-done g l = record {
   within : l.done ≤ length l.piece;
-  added : Appends (g.K.Sink.written l.fn.sink) (g.K.Sink.written l.sink) (take l.done l.piece);
-  count : g.K.Sink.faults l.fn.sink ≤ g.K.Sink.faults l.sink;
+  added : Appends (g.K.Sink.sink_state l.fn.sink).written (g.K.Sink.sink_state l.sink).written (take l.done l.piece);
+  count : (g.K.Sink.sink_state l.fn.sink).faults ≤ (g.K.Sink.sink_state l.sink).faults;
 }
 
 abbrev pub decreases-loop-done : goal.decreases-loop-done
