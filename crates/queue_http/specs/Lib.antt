@@ -1,3 +1,3 @@
-pub mod Answers
-pub mod Asked
 pub mod Replies
+pub mod Routes
+pub mod Service

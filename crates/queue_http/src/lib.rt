@@ -1,9 +1,9 @@
 //! The job system's HTTP service over a list of jobs: what a request asks for, and what is replied.
 #![tactic(auto)]
 
-mod asked;
 mod job_list;
 mod replies;
+mod routes;
 mod service;
 #[cfg(test)]
 mod tests;

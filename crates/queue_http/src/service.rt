@@ -1,12 +1,12 @@
 ghost use Rattle.std.specs.Prelude.{◌≡◌, IsTrue, IfOk, OnErr};
 ghost use Rattle.http_wire.specs.Reply.{is_reply_status};
-ghost use Rattle.queue_http.specs.Answers as spec;
-ghost use Rattle.queue_http.specs.Answers.{Answers, ComesTo, Does, MayTick};
-ghost use Rattle.queue_http.specs.Asked as asked;
+ghost use Rattle.queue_http.specs.Routes as routes;
+ghost use Rattle.queue_http.specs.Service as spec;
+ghost use Rattle.queue_http.specs.Service.{service, Answers, ComesTo, Does, MayTakeMoment};
 
 use crate::JobList;
-use crate::asked::{Ask, asked_by};
 use crate::replies::{created, no_memory, unknown_class};
+use crate::routes::{Ask, ask_of};
 use http_wire::{Reply, Request};
 use job_states::{JobId, JobRow, Moment, NewJob, NoMemory, Outcome, State};
 use queue_config::Config;
@@ -22,8 +22,8 @@ pub fn answer<C: Clock>(
     clock: &mut C,
     request: &Request,
 ) -> Reply
-    ensures answers { Answers config.now request.now jobs.old jobs.new
-        (C.moments clock.old) (C.moments clock.new) result }
+    ensures answers { Answers config.now (service jobs.old (C.moments clock.old)) request.now result
+        (service jobs.new (C.moments clock.new)) }
     ensures status { IsTrue (is_reply_status result.status) }
 {
     match try_answer(alloc, config, jobs, clock, request) {
@@ -39,14 +39,14 @@ fn try_answer<C: Clock>(
     clock: &mut C,
     request: &Request,
 ) -> Result<Reply, NoMemory>
-    ensures does { IfOk result (Does config.now (asked.asked_by request.now) jobs.old jobs.new
-        (C.moments clock.old) (C.moments clock.new)) }
+    ensures does { IfOk result (λ reply. Does config.now (service jobs.old (C.moments clock.old))
+        (routes.ask_of request.now) reply (service jobs.new (C.moments clock.new))) }
     ensures status { IfOk result (λ reply. IsTrue (is_reply_status reply.status)) }
     ensures stays { OnErr result (jobs.new ≡ jobs.old) }
-    ensures may_tick { OnErr result (MayTick (asked.asked_by request.now)
+    ensures moments { OnErr result (MayTakeMoment (routes.ask_of request.now)
         (C.moments clock.old) (C.moments clock.new)) }
 {
-    match asked_by(alloc, request)? {
+    match ask_of(alloc, request)? {
         Ask::Reply(reply) => Ok(reply),
         Ask::Enqueue(job) => enqueue(alloc, config, jobs, clock.now(), job),
     }
@@ -64,7 +64,7 @@ fn enqueue(
     ensures stays { OnErr result (jobs.new ≡ jobs.old) }
 {
     match config.class(&job.class) {
-        None => unknown_class(alloc, &job.class),
+        None => unknown_class(alloc, 0, &job.class),
         Some(_) => append(alloc, jobs, now, job),
     }
 }
@@ -100,7 +100,7 @@ fn row_of(id: JobId, job: NewJob) -> JobRow
     }
 }
 
-// Where the job stands at this moment, and how that is told.
+// Where the job stands at this moment, and how that is reported.
 fn place_at(at: Option<Moment>, now: Moment) -> (State, Outcome)
     ensures { result ≡ spec.place_at at now }
 {

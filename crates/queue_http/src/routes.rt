@@ -1,6 +1,7 @@
+//! What a request asks for.
 ghost use Rattle.std.specs.Prelude.{◌≡◌, IfOk};
 ghost use Rattle.job_envelope.specs.Envelope.{envelope_of};
-ghost use Rattle.queue_http.specs.Asked as spec;
+ghost use Rattle.queue_http.specs.Routes as spec;
 
 use crate::replies::{envelope_fault, not_built};
 use http_wire::{Reply, Request};
@@ -17,22 +18,22 @@ pub(crate) enum Ask {
     Reply(Reply),
 }
 
-pub(crate) fn asked_by(alloc: Global, request: &Request) -> Result<Ask, NoMemory>
-    ensures exact { IfOk result (λ ask. ask ≡ spec.asked_by request.now) }
+pub(crate) fn ask_of(alloc: Global, request: &Request) -> Result<Ask, NoMemory>
+    ensures exact { IfOk result (λ ask. ask ≡ spec.ask_of request.now) }
     ensures status { IfOk result spec.HasStatus }
 {
     if request.method.as_str() == "POST" && request.path.as_str() == "/jobs" {
-        return asked_in(alloc, &request.body);
+        return enqueue_of(alloc, &request.body);
     }
     Ok(Ask::Reply(not_built(alloc)?))
 }
 
-fn asked_in(alloc: Global, body: &Bytes) -> Result<Ask, NoMemory>
-    ensures exact { IfOk result (λ ask. ask ≡ spec.asked_in (envelope_of body.now)) }
+fn enqueue_of(alloc: Global, body: &Bytes) -> Result<Ask, NoMemory>
+    ensures exact { IfOk result (λ ask. ask ≡ spec.enqueue_of (envelope_of body.now)) }
     ensures status { IfOk result spec.HasStatus }
 {
     match Envelope::read(alloc, body.as_slice()) {
         Ok(job) => Ok(Ask::Enqueue(job)),
-        Err(fault) => Ok(Ask::Reply(envelope_fault(alloc, fault)?)),
+        Err(fault) => Ok(Ask::Reply(envelope_fault(alloc, 0, fault)?)),
     }
 }
