@@ -1,24 +1,59 @@
--- How a stream ends a run.
-use Rattle.std.proofs.Common.{ℕ, List, [], Option, IsSome, Result, Ok, Err, OnOk, OnErr, inl, inr, refl, sym, append-nil}
+-- What is written last.
+use Rattle.std.proofs.Common.{◌≡◌, ℕ, List, [], Option, None, Some, IfNone, Result, Ok, Err, OnOk, OnErr, is_err, true, false, inl, inr, refl, sym, ◌∙◌, subst, append-nil}
 use Rattle.std.specs.Io.KnownBytes.{Appends}
+use Rattle.std.proofs.KnownBytes.{Appends-nil}
 use Rattle.sq_outside.specs.Fault.{Rose}
-use Rattle.http_wire.specs.declared.request.WireFault.{WireFault}
-use Rattle.http_wire.specs.declared.request.WireFault.TheVariants as faults
-use Rattle.http_wire.specs.Reply.{AppendsFront}
-use Rattle.queue_http.specs.Replies.{refusal}
-use Rattle.queue_cli.specs.declared.outcome.End.TheVariants.{BadInput}
-use Rattle.queue_cli.specs.Exec.{WritesLast, Tells, EndsBy}
+use Rattle.sq_outside.specs.Streams.{SourceState, SinkState}
+use Rattle.http_wire.specs.Reply.{AppendsPrefix}
+use Rattle.queue_cli.specs.declared.end.End.{End}
+use Rattle.queue_cli.specs.declared.end.End.TheVariants.{Done, BadInput, Usage, BadSettings, ReadFault, WriteFault, NoMemory, InputTooLong}
+use Rattle.queue_cli.specs.LastText.{last_text, WritesLast, Reports}
+use Rattle.queue_cli.specs.Outside.{Outside}
+use Rattle.queue_cli.specs.Run.{EndsWithoutSettings}
+use Rattle.queue_cli.specs.Settings.{LacksSettings}
 
--- the last piece, written whole or not
-pub last_written : {T E : Type 0} (r : Result T E) (old : Option (List ℕ)) (before : ℕ) (new : Option (List ℕ)) (after : ℕ) (text : List ℕ)
-    → OnOk r (Appends old new text) → OnErr r (AppendsFront old new text) → OnErr r (Rose before after) → WritesLast old before new after [] text
-last_written (Ok x) old before new after text whole front cause = record { part = text; behind = []; parts = sym (append-nil text); written = whole; whole = inl refl }
-last_written (Err e) old before new after text whole front cause = record { part = front.front; behind = front.back; parts = front.whole; written = front.added; whole = inr cause }
+-- a piece, written whole or not
+pub last_written : {T E : Type 0} (r : Result T E) (old new : SinkState) (text last : List ℕ) → text ≡ last
+    → OnOk r (Appends old.written new.written text) → OnErr r (AppendsPrefix old.written new.written text) → OnErr r (Rose old.faults new.faults) → WritesLast old new [] last
+last_written (Ok x) old new text last same whole prefix cause = record { part = text; after = []; parts = sym same ∙ sym (append-nil text); written = whole; whole = inl refl }
+last_written (Err e) old new text last same whole prefix cause = record { part = prefix.prefix; after = prefix.rest; parts = sym same ∙ prefix.parts; written = prefix.added; whole = inr cause }
 
-pub told_end : (fault : WireFault) (old : Option (List ℕ)) (before : ℕ) (new : Option (List ℕ)) (after : ℕ) → IsSome (refusal fault) → Tells fault old before new after → EndsBy fault old before new after BadInput
-told_end (faults.BadRequest at) old before new after some tells = (refl, tells)
-told_end (faults.TooLarge at len) old before new after some tells = (refl, tells)
-told_end (faults.Unsupported at) old before new after some tells = (refl, tells)
-told_end faults.ReadFault old before new after some tells = (cc)
-told_end faults.InputTooLong old before new after some tells = (cc)
-told_end faults.NoMemory old before new after some tells = (cc)
+-- nothing is written
+pub nothing : (old new : SinkState) → old ≡ new → WritesLast old new [] []
+nothing old new same =
+    let P : SinkState → Type 0 = λ output. WritesLast old output [] [] in
+    subst P same (record { part = []; after = []; parts = refl; written = Appends-nil old.written; whole = inl refl })
+
+-- the end of a run without settings is reported
+pub without_settings : (old new : Outside) (end reported : End) → LacksSettings old.settings new.settings end → new.input ≡ old.input → new.moments ≡ old.moments → Reports old.output new.output end reported → EndsWithoutSettings old new reported
+without_settings old new (BadSettings number key) reported cause input moments (inl is) =
+    let P : End → Type 0 = EndsWithoutSettings old new in
+    subst P (sym is.same) (record { cause = cause; input = input; moments = moments; written = is.written })
+without_settings old new (BadSettings number key) reported cause input moments (inr none) =
+    let P : End → Type 0 = EndsWithoutSettings old new in
+    subst P (sym none.memory) (record { cause = tt; input = input; moments = moments; written = nothing old.output new.output none.output })
+without_settings old new ReadFault reported cause input moments is =
+    let P : End → Type 0 = EndsWithoutSettings old new in
+    subst P (sym is.same) (record { cause = cause; input = input; moments = moments; written = is.written })
+without_settings old new NoMemory reported cause input moments is =
+    let P : End → Type 0 = EndsWithoutSettings old new in
+    subst P (sym is.same) (record { cause = cause; input = input; moments = moments; written = is.written })
+without_settings old new Done reported cause input moments is = absurd cause
+without_settings old new (BadInput at refusal) reported cause input moments is = absurd cause
+without_settings old new Usage reported cause input moments is = absurd cause
+without_settings old new WriteFault reported cause input moments is = absurd cause
+without_settings old new InputTooLong reported cause input moments is = absurd cause
+
+-- ---- what a call says by its answer
+
+pub if_none : {A : Type 0} (o : Option A) (P : Type 0) → o ≡ None → IfNone o P → P
+if_none None P is fact = fact
+if_none (Some x) P is fact = (cc)
+
+pub err_known : {T E : Type 0} (r : Result T E) (P : Type 0) → is_err r ≡ true → OnErr r P → P
+err_known (Ok x) P never fact = (cc)
+err_known (Err e) P is fact = fact
+
+pub ok_known : {T E : Type 0} (r : Result T E) (P : Type 0) → is_err r ≡ false → OnOk r P → P
+ok_known (Ok x) P is fact = fact
+ok_known (Err e) P never fact = (cc)

@@ -1,6 +1,5 @@
 pub mod Ends
 pub mod Reading
+pub mod Requests
 pub mod Serving
 pub mod SettingsLemmas
-pub mod Taking
-pub mod Words

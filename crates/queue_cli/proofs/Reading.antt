@@ -1,107 +1,124 @@
--- A stream of requests is read in one way.
-use Rattle.std.proofs.Common.{◌≡◌, ◌≤◌, ◌<◌, ◌⊎◌, ◌+◌, inl, inr, ℕ, List, [], ◌∷◌, length, take, Ok, Err, ap, ◌∙◌, Option, None, Some, IfSome, refl, sym, subst, arith}
+-- Which exit status comes where settings and input are known.
+use Rattle.std.proofs.Common.{◌≡◌, ◌≤◌, ◌<◌, ◌⊎◌, ◌+◌, inl, inr, ℕ, List, [], ◌∷◌, ◌++◌, length, take, drop, length-append, Ok, Err, ap, ◌∙◌, Option, None, Some, IfSome, refl, sym, subst, arith}
+use Rattle.std.specs.Io.KnownBytes.{Consumes}
 use Rattle.sq_outside.specs.Fault.{Rose}
-use Rattle.http_wire.specs.Stream.{Known, IsRequest, IsEnd, IsRefused}
+use Rattle.sq_outside.specs.Streams.{SourceState}
+use Rattle.http_wire.specs.Stream.{IsRequest, IsEnd, IsRefused}
 use Rattle.http_wire.specs.declared.head.Refusal.{Refusal}
 use Rattle.http_wire.specs.declared.request.Request.{Request}
-use Rattle.queue_cli.specs.Service.{Spelled}
-use Rattle.queue_cli.specs.Status.{status_of}
-use Rattle.queue_cli.specs.Streams.{Told, Streams}
-use Rattle.queue_cli.specs.declared.outcome.End.{End}
-use Rattle.queue_cli.specs.declared.outcome.End.TheVariants as ends
 use Rattle.queue_config.specs.declared.config.Config.{Config}
 use Rattle.queue_config.specs.declared.fault.SettingsFault.TheVariants as fault
 use Rattle.queue_config.specs.Settings.{config_of}
-use Rattle.queue_cli.specs.Exec.{HasServed}
-use Rattle.queue_cli.specs.Settings.{IsFront, most_read}
-use Rattle.queue_cli.specs.Outcome.{exec_words, HasOutcome, EndsBefore}
-use Rattle.queue_cli.proofs.SettingsLemmas.{judged_front}
+use Rattle.queue_cli.specs.Command.{command_of}
+use Rattle.queue_cli.specs.declared.command.Command.{Command}
+use Rattle.queue_cli.specs.declared.command.Command.TheVariants.{Exec}
+use Rattle.queue_cli.specs.declared.end.End.{End}
+use Rattle.queue_cli.specs.declared.end.End.TheVariants as ends
+use Rattle.queue_cli.specs.Exec.{Session, AreRequests, AnswersPrefix, requests_of}
+use Rattle.queue_cli.specs.ExitStatus.{exit_status}
+use Rattle.queue_cli.specs.Outside.{Outside}
+use Rattle.queue_cli.specs.Run.{Performs, EndsWithoutSettings, AnswersBySettings, HasOutcome, RefusesSettings, IsComplete, Runs}
+use Rattle.queue_cli.specs.Settings.{TakesPrefix, most_read, LacksSettings}
+use Rattle.queue_cli.proofs.Requests.{never_refused, requests_then, pending_at}
+use Rattle.queue_cli.proofs.SettingsLemmas.{judged_prefix}
 
-abbrev One : Type 0
-One = (bytes : List ℕ) (request other : Request) (rest more : List ℕ) → IsRequest bytes request rest → IsRequest bytes other more → (request ≡ other) × (rest ≡ more)
+-- what was taken is part of the whole input
+taken_of_known : (left left' : Option (List ℕ)) (bytes taken : List ℕ) → left ≡ Some bytes → Consumes left left' taken → (rest : List ℕ) × (bytes ≡ taken ++ rest)
+taken_of_known left left' bytes taken is consumed =
+    let P : Option (List ℕ) → Type 0 = λ left. Consumes left left' taken in
+    known left' (subst P is consumed)
+  where
+    known : (left' : Option (List ℕ)) → Consumes (Some bytes) left' taken → (rest : List ℕ) × (bytes ≡ taken ++ rest)
+    known None consumed = absurd consumed
+    known (Some rest) consumed = (rest, consumed)
 
-abbrev GoesOn : Type 0
-GoesOn = (bytes : List ℕ) (request : Request) (rest : List ℕ) → IsRequest bytes request rest → IsEnd bytes → ⊥
+not_refused : (bytes : List ℕ) (requests : List Request) (rest taken : List ℕ) (others : List Request) (pending : List ℕ) (at : ℕ) (why : Refusal) (left : List ℕ)
+    → AreRequests bytes requests rest → IsEnd rest → bytes ≡ taken ++ left → AreRequests taken others pending → at + length pending ≡ length taken → IsRefused (drop at bytes) why → ⊥
+not_refused bytes requests rest taken others pending at why left are end whole first place refused =
+    let P : List ℕ → Type 0 = λ bytes. AreRequests bytes others (pending ++ left) in
+    let Q : List ℕ → Type 0 = λ bytes. IsRefused bytes why in
+    never_refused bytes requests rest others (pending ++ left) why are end (subst P (sym whole) (requests_then taken others pending left first))
+    (subst Q (ap (drop at) whole ∙ pending_at at taken others pending left first place) refused)
 
-abbrev Taken : Type 0
-Taken = (bytes : List ℕ) (request : Request) (rest : List ℕ) (refusal : Refusal) → IsRequest bytes request rest → IsRefused bytes refusal → ⊥
+-- a sequence of requests is answered whole, or there is no memory for it
+done_or_no_memory : (settings : Config) (old new : Session) (end : End) → AnswersPrefix settings old new end
+    → (bytes : List ℕ) (requests : List Request) (rest : List ℕ) → old.input.left ≡ Some bytes → AreRequests bytes requests rest → IsEnd rest → length bytes ≤ 1073741824
+    → (Rose old.input.faults new.input.faults → ⊥) → (Rose old.output.faults new.output.faults → ⊥) → (exit_status end ≡ 0) ⊎ (exit_status end ≡ 7)
+done_or_no_memory settings old new ends.Done answers bytes requests rest is are at_end short reads writes = inl refl
+done_or_no_memory settings old new (ends.BadInput at refusal) answers bytes requests rest is are at_end short reads writes =
+    let known = taken_of_known old.input.left new.input.left bytes answers.taken is answers.consumed in
+    let P : Option (List ℕ) → Type 0 = λ left. IfSome left (λ bytes. IsRefused (drop at bytes) refusal) in
+    absurd (not_refused bytes requests rest answers.taken (requests_of answers.exchanges) answers.pending at refusal known.0 are at_end known.1 answers.requests answers.cause.place (subst P is answers.cause.refused))
+done_or_no_memory settings old new ends.Usage answers bytes requests rest is are at_end short reads writes = absurd answers.cause
+done_or_no_memory settings old new (ends.BadSettings number key) answers bytes requests rest is are at_end short reads writes = absurd answers.cause
+done_or_no_memory settings old new ends.ReadFault answers bytes requests rest is are at_end short reads writes = absurd (reads answers.cause.0)
+done_or_no_memory settings old new ends.WriteFault answers bytes requests rest is are at_end short reads writes = absurd (writes answers.written.fault)
+done_or_no_memory settings old new ends.NoMemory answers bytes requests rest is are at_end short reads writes = inr refl
+done_or_no_memory settings old new ends.InputTooLong answers bytes requests rest is are at_end short reads writes =
+    let known = taken_of_known old.input.left new.input.left bytes answers.taken is answers.consumed in
+    let whole : length bytes ≡ length answers.taken + length known.0 = ap length known.1 ∙ length-append answers.taken known.0 in
+    absurd (omega (arith, whole, short, answers.cause.full))
 
--- a sequence of requests has no place where it is refused
-never_refused : One → GoesOn → Taken → (bytes : List ℕ) (requests : List Request) (rest : List ℕ) (others : List Request) (more : List ℕ) (why : Refusal)
-    → Spelled bytes requests rest → IsEnd rest → Spelled bytes others more → IsRefused more why → ⊥
-never_refused one goes_on taken bytes [] rest [] more why is end other refused =
-    let same : rest ≡ more = cc in refused.goes_on (subst IsEnd same end)
-never_refused one goes_on taken bytes [] rest (other ∷ others) more why is end (mid, request, spelled) refused = goes_on bytes other mid request (subst IsEnd is end)
-never_refused one goes_on taken bytes (request ∷ requests) rest [] more why (mid, is, spelled) end other refused = taken bytes request mid why is (let P : List ℕ → Type 0 = λ b. IsRefused b why in subst P other refused)
-never_refused one goes_on taken bytes (request ∷ requests) rest (next ∷ others) more why (mid, is, spelled) end (mid', is', spelled') refused =
-    let same = one bytes request next mid mid' is is' in
-    let P : List ℕ → Type 0 = λ b. Spelled b others more in
-    never_refused one goes_on taken mid requests rest others more why spelled end (subst P (sym same.1) spelled') refused
+-- what was read of the settings is judged as the whole of them
+prefix_judged : (left left' : Option (List ℕ)) (prefix text : List ℕ) → TakesPrefix most_read left left' prefix → left ≡ Some text → config_of prefix ≡ config_of text
+prefix_judged left left' prefix text read is =
+    let P : Option (List ℕ) → Type 0 = λ left. IfSome left (λ bytes. prefix ≡ take 1048577 bytes) in
+    let same : prefix ≡ take 1048577 text = subst P is read.whole in
+    ap config_of same ∙ judged_prefix text
 
-bad_never : One → GoesOn → Taken → (bytes : List ℕ) (requests : List Request) (rest : List ℕ) (others : List Request) (why : Refusal) (place : ℕ) (more : Option (List ℕ))
-    → Spelled bytes requests rest → IsEnd rest → Known (Some bytes) more (λ bytes more. Spelled bytes others more) → Known (Some bytes) more (λ bytes more. IsRefused more why × (place + length more ≡ length bytes)) → ⊥
-bad_never one goes_on taken bytes requests rest others why place None is end spelled refused = absurd spelled
-bad_never one goes_on taken bytes requests rest others why place (Some more) is end spelled refused = never_refused one goes_on taken bytes requests rest others more why is end spelled refused.0
-
--- a sequence of requests is done, or there is no memory for it
-done_or_no_memory : One → GoesOn → Taken → (config : Config) (moments : Option (List ℕ)) (old new : Streams) (end : End) → HasServed config moments old new end
-    → (bytes : List ℕ) (requests : List Request) (rest : List ℕ) → old.left ≡ Some bytes → Spelled bytes requests rest → IsEnd rest → length bytes ≤ 1073741824
-    → (Rose old.read_faults new.read_faults → ⊥) → (Rose old.write_faults new.write_faults → ⊥) → (status_of end ≡ 0) ⊎ (status_of end ≡ 7)
-done_or_no_memory one goes_on taken config moments old new ends.Done outcome bytes requests rest left spelled at_end short reads writes = inl refl
-done_or_no_memory one goes_on taken config moments old new ends.BadInput outcome bytes requests rest left spelled at_end short reads writes =
-    let P : Option (List ℕ) → Type 0 = λ left. Known left outcome.rest (λ bytes more. Spelled bytes outcome.serves.requests more) in
-    let Q : Option (List ℕ) → Type 0 = λ left. Known left outcome.rest (λ bytes more. IsRefused more outcome.why × (outcome.place + length more ≡ length bytes)) in
-    absurd (bad_never one goes_on taken bytes requests rest outcome.serves.requests outcome.why outcome.place outcome.rest spelled at_end (subst P left outcome.serves.spelled) (subst Q left outcome.refused))
-done_or_no_memory one goes_on taken config moments old new ends.Usage outcome bytes requests rest left spelled at_end short reads writes = absurd outcome
-done_or_no_memory one goes_on taken config moments old new ends.BadSettings outcome bytes requests rest left spelled at_end short reads writes = absurd outcome
-done_or_no_memory one goes_on taken config moments old new ends.ReadFault outcome bytes requests rest left spelled at_end short reads writes = absurd (reads outcome.0)
-done_or_no_memory one goes_on taken config moments old new ends.WriteFault outcome bytes requests rest left spelled at_end short reads writes = absurd (writes outcome.0)
-done_or_no_memory one goes_on taken config moments old new ends.NoMemory outcome bytes requests rest left spelled at_end short reads writes = inr refl
-done_or_no_memory one goes_on taken config moments old new ends.InputTooLong outcome bytes requests rest left spelled at_end short reads writes =
-    let P : Option (List ℕ) → Type 0 = λ left. IfSome left (λ bytes. 1073741824 < length bytes) in
-    let long : 1073741824 < length bytes = subst P left outcome.long in
-    absurd (omega (arith, short, long))
-
--- What was read of the settings is judged as the whole of them.
-front_judged : (left left' : Option (List ℕ)) (front text : List ℕ) → IsFront most_read left left' front → left ≡ Some text → config_of front ≡ config_of text
-front_judged left left' front text read is =
-    let P : Option (List ℕ) → Type 0 = λ left. IfSome left (λ bytes. front ≡ take 1048577 bytes) in
-    let same : front ≡ take 1048577 text = subst P is read.whole in
-    ap config_of same ∙ judged_front text
-
--- settings that are accepted are not in the way
-before_accepted : (file file' : Told) (old new : Streams) (end : End) → EndsBefore file file' old new end → (text : List ℕ) (settings : Config) → file.left ≡ Some text → config_of text ≡ Ok settings
-    → (Rose file.faults file'.faults → ⊥) → (status_of end ≡ 0) ⊎ (status_of end ≡ 7)
-before_accepted file file' old new ends.BadSettings before text settings left accepted reads =
-    let judged = front_judged file.left file'.left before.refused.text text before.refused.read left in
-    let refused = before.refused.refused in
+-- settings that are accepted don't end a run
+not_accepted : (old new : SourceState) (end : End) → LacksSettings old new end → (text : List ℕ) (settings : Config) → old.left ≡ Some text → config_of text ≡ Ok settings
+    → (Rose old.faults new.faults → ⊥) → (exit_status end ≡ 0) ⊎ (exit_status end ≡ 7)
+not_accepted old new (ends.BadSettings number key) refused text settings left accepted reads =
+    let judged = prefix_judged old.left new.left refused.text text refused.read left in
+    let because = refused.refused in
     (cc)
-before_accepted file file' old new ends.ReadFault before text settings left accepted reads = absurd (reads before.0)
-before_accepted file file' old new ends.NoMemory before text settings left accepted reads = inr refl
-before_accepted file file' old new _ before text settings left accepted reads = absurd before
+not_accepted old new ends.ReadFault rose text settings left accepted reads = absurd (reads rose)
+not_accepted old new ends.NoMemory none text settings left accepted reads = inr refl
+not_accepted old new ends.Done never text settings left accepted reads = absurd never
+not_accepted old new (ends.BadInput at refusal) never text settings left accepted reads = absurd never
+not_accepted old new ends.Usage never text settings left accepted reads = absurd never
+not_accepted old new ends.WriteFault never text settings left accepted reads = absurd never
+not_accepted old new ends.InputTooLong never text settings left accepted reads = absurd never
 
-pub complete_run : One → GoesOn → Taken → (moments : Option (List ℕ)) (file file' : Told) (old new : Streams) (end : End) → HasOutcome exec_words moments file file' old new end
-    → (text : List ℕ) (settings : Config) → file.left ≡ Some text → config_of text ≡ Ok settings
-    → (bytes : List ℕ) (requests : List Request) (rest : List ℕ) → old.left ≡ Some bytes → Spelled bytes requests rest → IsEnd rest → length bytes ≤ 1073741824
-    → (Rose file.faults file'.faults → ⊥) → (Rose old.read_faults new.read_faults → ⊥) → (Rose old.write_faults new.write_faults → ⊥) → (status_of end ≡ 0) ⊎ (status_of end ≡ 7)
-complete_run one goes_on taken moments file file' old new end (inl (is, usage)) text settings told accepted bytes requests rest left spelled at_end short config reads writes = absurd (usage.unknown refl)
-complete_run one goes_on taken moments file file' old new end (inr (words, inl before)) text settings told accepted bytes requests rest left spelled at_end short config reads writes =
-    before_accepted file file' old new end before text settings told accepted config
-complete_run one goes_on taken moments file file' old new end (inr (words, inr after)) text settings told accepted bytes requests rest left spelled at_end short config reads writes =
-    done_or_no_memory one goes_on taken after.config moments old new end after.served bytes requests rest left spelled at_end short reads writes
+-- settings that are refused end it
+not_read : (old new : SourceState) (end : End) → LacksSettings old new end → (Rose old.faults new.faults → ⊥) → (exit_status end ≡ 3) ⊎ (exit_status end ≡ 7)
+not_read old new (ends.BadSettings number key) refused reads = inl refl
+not_read old new ends.ReadFault rose reads = absurd (reads rose)
+not_read old new ends.NoMemory none reads = inr refl
+not_read old new ends.Done never reads = absurd never
+not_read old new (ends.BadInput at refusal) never reads = absurd never
+not_read old new ends.Usage never reads = absurd never
+not_read old new ends.WriteFault never reads = absurd never
+not_read old new ends.InputTooLong never reads = absurd never
 
--- settings that are refused end a run
-before_refused : (file file' : Told) (old new : Streams) (end : End) → EndsBefore file file' old new end → (Rose file.faults file'.faults → ⊥) → (status_of end ≡ 3) ⊎ (status_of end ≡ 7)
-before_refused file file' old new ends.BadSettings before reads = inl refl
-before_refused file file' old new ends.ReadFault before reads = absurd (reads before.0)
-before_refused file file' old new ends.NoMemory before reads = inr refl
-before_refused file file' old new _ before reads = absurd before
-
-pub refused_run : (moments : Option (List ℕ)) (file file' : Told) (old new : Streams) (end : End) → HasOutcome exec_words moments file file' old new end
-    → (text : List ℕ) (number : ℕ) (key : List ℕ) → file.left ≡ Some text → config_of text ≡ Err (fault.Refused number key) → (Rose file.faults file'.faults → ⊥) → (status_of end ≡ 3) ⊎ (status_of end ≡ 7)
-refused_run moments file file' old new end (inl (is, usage)) text number key told refused reads = absurd (usage.unknown refl)
-refused_run moments file file' old new end (inr (words, inl before)) text number key told refused reads = before_refused file file' old new end before reads
-refused_run moments file file' old new end (inr (words, inr after)) text number key told refused reads =
-    let judged = front_judged file.left file'.left after.settings.text text after.settings.read told in
-    let accepted = after.settings.accepted in
+settings_refused : (old new : Outside) (end : End) → Performs (Some Exec) old new end → (text : List ℕ) (number : ℕ) (key : List ℕ) → old.settings.left ≡ Some text → config_of text ≡ Err (fault.Refused number key)
+    → (Rose old.settings.faults new.settings.faults → ⊥) → (exit_status end ≡ 3) ⊎ (exit_status end ≡ 7)
+settings_refused old new end (inl without) text number key left is_refused reads = not_read old.settings new.settings end without.cause reads
+settings_refused old new end (inr answers) text number key left is_refused reads =
+    let judged = prefix_judged old.settings.left new.settings.left answers.accepted.text text answers.accepted.read left in
+    let accepted = answers.accepted.accepted in
     (cc)
+
+complete : (old new : Outside) (end : End) → Performs (Some Exec) old new end → (text : List ℕ) (settings : Config) → old.settings.left ≡ Some text → config_of text ≡ Ok settings
+    → (bytes : List ℕ) (requests : List Request) (rest : List ℕ) → old.input.left ≡ Some bytes → AreRequests bytes requests rest → IsEnd rest → length bytes ≤ 1073741824
+    → (Rose old.settings.faults new.settings.faults → ⊥) → (Rose old.input.faults new.input.faults → ⊥) → (Rose old.output.faults new.output.faults → ⊥)
+    → (exit_status end ≡ 0) ⊎ (exit_status end ≡ 7)
+complete old new end (inl without) text settings left accepted bytes requests rest is are at_end short file reads writes =
+    not_accepted old.settings new.settings end without.cause text settings left accepted file
+complete old new end (inr answers) text settings left accepted bytes requests rest is are at_end short file reads writes =
+    done_or_no_memory answers.settings _ _ end answers.answers bytes requests rest is are at_end short reads writes
+
+-- the whole promise follows from what the command does
+pub runs : (words : List (List ℕ)) (old new : Outside) (end : End) (status : ℕ) → Performs (command_of words) old new end → status ≡ exit_status end → Runs words old new status
+runs words old new end status performs is = record {
+  outcome = record { end = end; is = is; performs = performs };
+  refused = λ exec text number key left is_refused reads.
+      (let P : Option Command → Type 0 = λ command. Performs command old new end in
+      let Q : ℕ → Type 0 = λ status. (status ≡ 3) ⊎ (status ≡ 7) in
+      subst Q (sym is) (settings_refused old new end (subst P exec performs) text number key left is_refused reads));
+  complete = λ exec text settings left accepted bytes requests rest here are at_end short file reads writes.
+      (let P : Option Command → Type 0 = λ command. Performs command old new end in
+      let Q : ℕ → Type 0 = λ status. (status ≡ 0) ⊎ (status ≡ 7) in
+      subst Q (sym is) (complete old new end (subst P exec performs) text settings left accepted bytes requests rest here are at_end short file reads writes));
+}

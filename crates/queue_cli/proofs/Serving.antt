@@ -1,239 +1,243 @@
 -- A run over a stream, request by request.
-use Rattle.std.proofs.Common.{◌≡◌, ◌+◌, ◌≤◌, ◌<◌, inl, inr, ℕ, List, [], ◌∷◌, ◌++◌, length, codes, true, false, Result, Ok, Err, OnOk, OnErr, is_err, Option, None, Some, IfSome, refl, ap, sym, ◌∙◌, subst, arith, append_assoc, append-nil}
-use Rattle.std.specs.Io.KnownBytes.{Keeps, Appends}
-use Rattle.std.proofs.KnownBytes.{Appends-nil, Appends-trans, Appends-kept}
+use Rattle.std.proofs.Common.{◌≡◌, ◌+◌, ◌≤◌, ◌<◌, inl, inr, ℕ, List, [], ◌∷◌, ◌++◌, length, length-append, drop, Option, None, Some, IfSome, refl, ap, sym, ◌∙◌, subst, arith, append_assoc, append-nil}
+use Rattle.std.specs.Io.KnownBytes.{Appends, Consumes, prepend_known}
+use Rattle.std.proofs.KnownBytes.{Appends-nil, Appends-trans, Consumes-nil, Consumes-trans}
+use Rattle.std.proofs.lemmas.Fn.{FoldsTo-push}
 use Rattle.std.proofs.lemmas.Grind.{flat_map-append}
-use Rattle.job_states.specs.declared.job.JobRow.{JobRow}
-use Rattle.job_states.specs.declared.job.State.{State}
+use Rattle.std.proofs.lemmas.List.{map_push}
 use Rattle.sq_outside.specs.Fault.{Rose}
+use Rattle.sq_outside.specs.Streams.{SourceState, SinkState}
 use Rattle.http_wire.specs.Ahead.{Ahead}
-use Rattle.http_wire.specs.Stream.{Known, rest_of, IsRequest, IsRefused, Takes, EndsIn, HasCause, fault_at}
-use Rattle.http_wire.specs.Reply.{reply_text, AppendsFront}
+use Rattle.http_wire.specs.Stream.{input_of, taken_of, IsRequest, IsRefused, HasReadOn, HasReadAll, TakesRequest, EndsInput, FailsWith}
+use Rattle.http_wire.specs.Stream as wire
+use Rattle.http_wire.specs.Reply.{reply_text, AppendsPrefix}
 use Rattle.http_wire.specs.declared.head.Refusal.{Refusal}
-use Rattle.http_wire.specs.declared.head.Refusal.TheVariants.{Bad, TooLarge, Unsupported}
+use Rattle.http_wire.specs.declared.head.Refusal.TheVariants as refusals
 use Rattle.http_wire.specs.declared.request.Request.{Request}
 use Rattle.http_wire.specs.declared.request.WireFault.{WireFault}
 use Rattle.http_wire.specs.declared.request.WireFault.TheVariants as faults
-use Rattle.http_wire.specs.declared.reply.Reply.{Reply}
 use Rattle.queue_config.specs.declared.config.Config.{Config}
-use Rattle.queue_http.specs.Answers.{Answers}
-use Rattle.queue_cli.specs.Service.{Spelled, Served, texts}
-use Rattle.queue_cli.specs.declared.outcome.End.{End}
-use Rattle.queue_cli.specs.Exec.{Serves, WritesLast, IsDone, IsBad, IsCut, IsUnwritten, IsTooLong, HasServed, Tells, EndsBy}
+use Rattle.queue_http.specs.Service.{Service, Answers}
+use Rattle.queue_cli.specs.declared.end.End.{End}
+use Rattle.queue_cli.specs.declared.end.End.TheVariants.{Done, BadInput, ReadFault, WriteFault, NoMemory, InputTooLong}
+use Rattle.queue_cli.specs.Exec.{Session, session, Exchange, requests_of, reply_texts, AreRequests, AreAnswered, AnswersPrefix, EndsFor, WritesReplies, fault_end, most_taken}
+use Rattle.queue_cli.specs.LastText.{last_text, WritesLast, Reports}
+use Rattle.queue_cli.proofs.Requests.{requests_then, pending_at}
 
--- what holds between two requests
-pub record Serving (config : Config) (moments left : Option (List ℕ)) (ahead : Ahead) (left' : Option (List ℕ)) (jobs : List (JobRow × State)) (later written written' : Option (List ℕ)) : Type 0 where
-  pub requests : List Request
-  pub replies : List Reply
-  pub spelled : Known left (rest_of ahead left') (λ bytes rest. Spelled bytes requests rest × (ahead.at + length rest ≡ length bytes))
-  pub served : Served config [] moments requests replies jobs later
-  pub added : Appends written written' (texts replies)
+-- the requests before the bytes ahead were answered
+pub record Answering (settings : Config) (old new : Session) (ahead : Ahead) : Type 0 where
+  pub taken : List ℕ
+  pub exchanges : List Exchange
+  pub consumed : Consumes old.input.left new.input.left taken
+  pub place : length taken ≡ taken_of ahead
+  pub requests : AreRequests taken (requests_of exchanges) ahead.bytes
+  pub answers : AreAnswered settings old.service exchanges new.service
+  pub reads : old.input.faults ≤ new.input.faults
 
-pub at_start : (config : Config) (moments left written : Option (List ℕ)) → Serving config moments left (record { bytes = []; at = 0 }) left [] moments written written
-at_start config moments left written = record {
-  requests = [];
-  replies = [];
-  spelled = start left;
-  served = (refl, refl);
-  added = Appends-nil written;
-}
-  where
-    start : (left : Option (List ℕ)) → Known left (rest_of (record { bytes = []; at = 0 }) left) (λ bytes rest. Spelled bytes [] rest × (0 + length rest ≡ length bytes))
-    start None = tt
-    start (Some bytes) = (refl, omega arith)
+-- and their replies were written: what holds between two requests
+pub record Serving (settings : Config) (old new : Session) (ahead : Ahead) : Type 0 where
+  pub answering : Answering settings old new ahead
+  pub written : Appends old.output.written new.output.written (reply_texts answering.exchanges)
+  pub writes : old.output.faults ≤ new.output.faults
 
-spelled_more : (bytes mid rest : List ℕ) (requests : List Request) (request : Request) → Spelled bytes requests mid → IsRequest mid request rest → Spelled bytes (requests ++ request ∷ []) rest
-spelled_more bytes mid rest [] request spelled is = (rest, (let P : List ℕ → Type 0 = λ bytes. IsRequest bytes request rest in subst P spelled is), refl)
-spelled_more bytes mid rest (first ∷ requests) request (next, is_first, spelled) is = (next, is_first, spelled_more next mid rest requests request spelled is)
-
-served_more : (config : Config) (jobs mid jobs' : List (JobRow × State)) (moments now later : Option (List ℕ)) (requests : List Request) (replies : List Reply) (request : Request) (reply : Reply)
-    → Served config jobs moments requests replies mid now → Answers config request mid jobs' now later reply → Served config jobs moments (requests ++ request ∷ []) (replies ++ reply ∷ []) jobs' later
-served_more config jobs mid jobs' moments now later [] [] request reply (same, same') answers =
-    (jobs', later, (let P : List (JobRow × State) → Type 0 = λ old. Answers config request old jobs' moments later reply in subst P same (let Q : Option (List ℕ) → Type 0 = λ at. Answers config request mid jobs' at later reply in subst Q same' answers)), (refl, refl))
-served_more config jobs mid jobs' moments now later [] (r ∷ replies) request reply served answers = absurd served
-served_more config jobs mid jobs' moments now later (q ∷ requests) [] request reply served answers = absurd served
-served_more config jobs mid jobs' moments now later (q ∷ requests) (r ∷ replies) request reply (next, soon, first, served) answers =
-    (next, soon, first, served_more config next mid jobs' soon now later requests replies request reply served answers)
-
-known_more : (left mid rest : Option (List ℕ)) (at at' : ℕ) (requests : List Request) (request : Request) → Known left mid (λ bytes mid. Spelled bytes requests mid × (at + length mid ≡ length bytes))
-    → Known mid rest (λ mid rest. IsRequest mid request rest × (at' + length rest ≡ at + length mid)) → Known left rest (λ bytes rest. Spelled bytes (requests ++ request ∷ []) rest × (at' + length rest ≡ length bytes))
-known_more None mid rest at at' requests request first second = tt
-known_more (Some bytes) None rest at at' requests request first second = absurd first
-known_more (Some bytes) (Some mid) None at at' requests request first second = absurd second
-known_more (Some bytes) (Some mid) (Some rest) at at' requests request (spelled, place) (is, moved) = (spelled_more bytes mid rest requests request spelled is, moved ∙ place)
-
-taken : (old new : Ahead) (mid rest : Option (List ℕ)) (request : Request) → Takes old mid request new rest
-    → Known (rest_of old mid) (rest_of new rest) (λ mid rest. IsRequest mid request rest × (new.at + length rest ≡ old.at + length mid))
-taken old new None rest request takes = tt
-taken old new (Some mid) None request takes = absurd takes
-taken old new (Some mid) (Some rest) request takes = (takes.is_request, takes.place)
-
-added_more : (old mid new : Option (List ℕ)) (replies : List Reply) (reply : Reply) → Appends old mid (texts replies) → Appends mid new (reply_text reply) → Appends old new (texts (replies ++ reply ∷ []))
-added_more old mid new replies reply first second =
-    let P : List ℕ → Type 0 = Appends old new in
-    subst P (ap (λ w. texts replies ++ w) (sym (append-nil (reply_text reply))) ∙ sym (flat_map-append reply_text replies (reply ∷ []))) (Appends-trans old mid new (texts replies) (reply_text reply) first second)
-
-pub serve_more : (config : Config) (moments left left' left'' : Option (List ℕ)) (ahead ahead' : Ahead) (jobs jobs' : List (JobRow × State)) (now later written mid written' : Option (List ℕ)) (request : Request) (reply : Reply)
-    → Serving config moments left ahead left' jobs now written mid → Takes ahead left' request ahead' left'' → Answers config request jobs jobs' now later reply → Appends mid written' (reply_text reply)
-    → Serving config moments left ahead' left'' jobs' later written written'
-serve_more config moments left left' left'' ahead ahead' jobs jobs' now later written mid written' request reply serving takes answers added = record {
-  requests = serving.requests ++ request ∷ [];
-  replies = serving.replies ++ reply ∷ [];
-  spelled = known_more left (rest_of ahead left') (rest_of ahead' left'') ahead.at ahead'.at serving.requests request serving.spelled (taken ahead ahead' left' left'' request takes);
-  served = served_more config [] jobs jobs' moments now later serving.requests serving.replies request reply serving.served answers;
-  added = added_more written mid written' serving.replies reply serving.added added;
+pub at_start : (settings : Config) (old : Session) (ahead : Ahead) → ahead.bytes ≡ [] → ahead.at ≡ 0 → Serving settings old old ahead
+at_start settings old ahead none first = record {
+  answering = record {
+    taken = [];
+    exchanges = [];
+    consumed = Consumes-nil old.input.left;
+    place = omega (arith, first, ap length none);
+    requests = sym none;
+    answers = refl;
+    reads = omega arith;
+  };
+  written = Appends-nil old.output.written;
+  writes = omega arith;
 }
 
--- What a run has done when it ends.
+length_then : (taken read : List ℕ) (n m : ℕ) → length taken ≡ n → m ≡ n + length read → length (taken ++ read) ≡ m
+length_then taken read n m is more = omega (arith, is, more, length-append taken read)
 
-serves_of : (config : Config) (moments left : Option (List ℕ)) (ahead : Ahead) (left' : Option (List ℕ)) (jobs : List (JobRow × State)) (later written written' : Option (List ℕ))
-    → (serving : Serving config moments left ahead left' jobs later written written') → Serves config moments left (rest_of ahead left') serving.replies
-serves_of config moments left ahead left' jobs later written written' serving = record {
-  requests = serving.requests;
-  spelled = only left (rest_of ahead left') serving.spelled;
-  jobs = jobs;
-  later = later;
-  served = serving.served;
+-- one more request is answered
+abbrev answered_more : (settings : Config) (old mid new : Session) (ahead ahead' : Ahead) (exchange : Exchange) → Answering settings old mid ahead
+    → TakesRequest (input_of ahead mid.input) exchange.request (input_of ahead' new.input) → Answers settings mid.service exchange.request exchange.reply new.service → Answering settings old new ahead'
+answered_more settings old mid new ahead ahead' exchange answering takes answers = record {
+  taken = answering.taken ++ takes.read;
+  exchanges = answering.exchanges ++ exchange ∷ [];
+  consumed = Consumes-trans old.input.left mid.input.left new.input.left answering.taken takes.read answering.consumed takes.has_read.consumed;
+  place = length_then answering.taken takes.read (taken_of ahead) (taken_of ahead') answering.place takes.place;
+  requests = (
+      let P : List Request → Type 0 = λ requests. AreRequests (answering.taken ++ takes.read) requests ahead'.bytes in
+      subst P (sym (map_push (λ exchange. exchange.request) answering.exchanges exchange))
+      (FoldsTo-push IsRequest (answering.taken ++ takes.read) (requests_of answering.exchanges) (ahead.bytes ++ takes.read) exchange.request ahead'.bytes
+      (requests_then answering.taken (requests_of answering.exchanges) ahead.bytes takes.read answering.requests) takes.is_request)
+      );
+  answers = FoldsTo-push (λ old exchange new. Answers settings old exchange.request exchange.reply new) old.service answering.exchanges mid.service exchange new.service answering.answers answers;
+  reads = omega (arith, answering.reads, takes.has_read.count);
 }
-  where
-    only : (left rest : Option (List ℕ)) → Known left rest (λ bytes rest. Spelled bytes serving.requests rest × (ahead.at + length rest ≡ length bytes)) → Known left rest (λ bytes rest. Spelled bytes serving.requests rest)
-    only None rest known = tt
-    only (Some bytes) None known = absurd known
-    only (Some bytes) (Some rest) known = known.0
+
+texts_push : (exchanges : List Exchange) (exchange : Exchange) → reply_texts (exchanges ++ exchange ∷ []) ≡ reply_texts exchanges ++ reply_text exchange.reply
+texts_push exchanges exchange =
+    flat_map-append (λ exchange. reply_text exchange.reply) exchanges (exchange ∷ []) ∙ ap (λ w. reply_texts exchanges ++ w) (append-nil (reply_text exchange.reply))
+
+-- its reply is written
+pub serve_more : (settings : Config) (old mid new : Session) (ahead ahead' : Ahead) (exchange : Exchange) → Serving settings old mid ahead
+    → TakesRequest (input_of ahead mid.input) exchange.request (input_of ahead' new.input) → Answers settings mid.service exchange.request exchange.reply new.service
+    → Appends mid.output.written new.output.written (reply_text exchange.reply) → mid.output.faults ≤ new.output.faults → Serving settings old new ahead'
+serve_more settings old mid new ahead ahead' exchange serving takes answers written writes = record {
+  answering = answered_more settings old mid new ahead ahead' exchange serving.answering takes answers;
+  written = (
+      let P : List ℕ → Type 0 = Appends old.output.written new.output.written in
+      subst P (sym (texts_push serving.answering.exchanges exchange))
+      (Appends-trans old.output.written mid.output.written new.output.written (reply_texts serving.answering.exchanges) (reply_text exchange.reply) serving.written written)
+      );
+  writes = omega (arith, serving.writes, writes);
+}
 
 rose_from : (first before after : ℕ) → first ≤ before → Rose before after → Rose first after
 rose_from first before after le rose = grind arith
 
-last_then : (old : Option (List ℕ)) (first : ℕ) (mid : Option (List ℕ)) (before : ℕ) (new : Option (List ℕ)) (after : ℕ) (front last : List ℕ)
-    → Appends old mid front → first ≤ before → WritesLast mid before new after [] last → WritesLast old first new after front last
-last_then old first mid before new after front last added le written = record {
+-- its reply can't be written
+pub unwritten : (settings : Config) (old mid new : Session) (ahead ahead' : Ahead) (exchange : Exchange) → Serving settings old mid ahead
+    → TakesRequest (input_of ahead mid.input) exchange.request (input_of ahead' new.input) → Answers settings mid.service exchange.request exchange.reply new.service
+    → AppendsPrefix mid.output.written new.output.written (reply_text exchange.reply) → Rose mid.output.faults new.output.faults → AnswersPrefix settings old new WriteFault
+unwritten settings old mid new ahead ahead' exchange serving takes answers part rose =
+    let answering = answered_more settings old mid new ahead ahead' exchange serving.answering takes answers in
+    let failed = rose_from old.output.faults mid.output.faults new.output.faults serving.writes rose in
+    record {
+      taken = answering.taken;
+      exchanges = answering.exchanges;
+      pending = ahead'.bytes;
+      consumed = answering.consumed;
+      within = omega (arith, answering.place, takes.within);
+      requests = answering.requests;
+      answers = answering.answers;
+      written = record {
+        before = serving.answering.exchanges;
+        last = exchange;
+        exchanges_are = refl;
+        written = record {
+          part = part.prefix;
+          after = part.rest;
+          parts = part.parts;
+          written = Appends-trans old.output.written mid.output.written new.output.written (reply_texts serving.answering.exchanges) part.prefix serving.written part.added;
+          whole = inr failed;
+        };
+        fault = failed;
+      };
+      cause = tt;
+    }
+
+-- the end is met before another request
+abbrev ended : (settings : Config) (old mid new : Session) (ahead ahead' : Ahead) (read : List ℕ) (end : End) → (answering : Answering settings old mid ahead) → HasReadOn (input_of ahead mid.input) read (input_of ahead' new.input) → mid.service ≡ new.service
+    → WritesReplies old.output new.output answering.exchanges end → taken_of ahead + length read ≤ most_taken end → EndsFor old.input new.input (answering.taken ++ read) (ahead.bytes ++ read) end → AnswersPrefix settings old new end
+ended settings old mid new ahead ahead' read end answering has_read same written within cause = record {
+  taken = answering.taken ++ read;
+  exchanges = answering.exchanges;
+  pending = ahead.bytes ++ read;
+  consumed = Consumes-trans old.input.left mid.input.left new.input.left answering.taken read answering.consumed has_read.consumed;
+  within = (let whole = length_then answering.taken read (taken_of ahead) (taken_of ahead + length read) answering.place refl in rw whole within);
+  requests = requests_then answering.taken (requests_of answering.exchanges) ahead.bytes read answering.requests;
+  answers = (let P : Service → Type 0 = AreAnswered settings old.service answering.exchanges in subst P same answering.answers);
+  written = written;
+  cause = cause;
+}
+
+last_then : (old mid new : SinkState) (first last : List ℕ) → Appends old.written mid.written first → old.faults ≤ mid.faults → WritesLast mid new [] last → WritesLast old new first last
+last_then old mid new first last added le written = record {
   part = written.part;
-  behind = written.behind;
+  after = written.after;
   parts = written.parts;
-  written = Appends-trans old mid new front written.part added written.written;
-  whole = elim written.whole [ inl none ↦ inl none | inr rose ↦ inr (rose_from first before after le rose) ];
+  written = Appends-trans old.written mid.written new.written first written.part added written.written;
+  whole = elim written.whole [ inl none ↦ inl none | inr rose ↦ inr (rose_from old.faults mid.faults new.faults le rose) ];
 }
 
--- one more request was answered, whatever was written
-answered_more : (config : Config) (moments left left' left'' : Option (List ℕ)) (ahead ahead' : Ahead) (jobs jobs' : List (JobRow × State)) (now later written mid : Option (List ℕ)) (request : Request) (reply : Reply)
-    → (serving : Serving config moments left ahead left' jobs now written mid) → Takes ahead left' request ahead' left'' → Answers config request jobs jobs' now later reply
-    → Serves config moments left (rest_of ahead' left'') (serving.replies ++ reply ∷ [])
-unfolding serve_more
-answered_more config moments left left' left'' ahead ahead' jobs jobs' now later written mid request reply serving takes answers =
-    let untold : Serving config moments left ahead left' jobs now None None = record { requests = serving.requests; replies = serving.replies; spelled = serving.spelled; served = serving.served; added = tt } in
-    serves_of config moments left ahead' left'' jobs' later None None
-    (serve_more config moments left left' left'' ahead ahead' jobs jobs' now later None None None request reply untold takes answers tt)
-
--- the output failed
-pub unwritten : (config : Config) (moments left left' left'' : Option (List ℕ)) (ahead ahead' : Ahead) (jobs jobs' : List (JobRow × State)) (now later written mid written' : Option (List ℕ)) (request : Request) (reply : Reply) (reads reads' writes writes' : ℕ) (after : Option (List ℕ))
-    → Serving config moments left ahead left' jobs now written mid → Takes ahead left' request ahead' left'' → Answers config request jobs jobs' now later reply → AppendsFront mid written' (reply_text reply)
-    → IsUnwritten config moments (record { left = left; read_faults = reads; written = written; write_faults = writes }) (record { left = after; read_faults = reads'; written = written'; write_faults = writes' })
-unwritten config moments left left' left'' ahead ahead' jobs jobs' now later written mid written' request reply reads reads' writes writes' after serving takes answers front = record {
-  rest = rest_of ahead' left'';
-  replies = serving.replies ++ reply ∷ [];
-  serves = answered_more config moments left left' left'' ahead ahead' jobs jobs' now later written mid request reply serving takes answers;
-  written = record {
-    front = texts serving.replies ++ front.front;
-    back = front.back;
-    whole = flat_map-append reply_text serving.replies (reply ∷ []) ∙ ap (λ w. texts serving.replies ++ w) (append-nil (reply_text reply) ∙ front.whole) ∙ sym (append_assoc (texts serving.replies) front.front front.back);
-    added = Appends-trans written mid written' (texts serving.replies) front.front serving.added front.added;
-  };
+-- nothing is written last
+nothing_last : (old new : SinkState) (first : List ℕ) → Appends old.written new.written first → WritesLast old new first []
+nothing_last old new first added = record {
+  part = [];
+  after = [];
+  parts = refl;
+  written = (let P : List ℕ → Type 0 = Appends old.written new.written in subst P (sym (append-nil first)) added);
+  whole = inl refl;
 }
 
-refused_known : (left rest : Option (List ℕ)) (at place : ℕ) (requests : List Request) (why : Refusal) → place ≡ at → Known left rest (λ bytes rest. Spelled bytes requests rest × (at + length rest ≡ length bytes)) → IfSome rest (λ bytes. IsRefused bytes why)
-    → Known left rest (λ bytes rest. IsRefused rest why × (place + length rest ≡ length bytes))
-refused_known None rest at place requests why is known refused = tt
-refused_known (Some bytes) None at place requests why is known refused = absurd known
-refused_known (Some bytes) (Some rest) at place requests why is known refused = (refused, omega (arith, is, known.1))
+replies_alone : (settings : Config) (old mid new : Session) (ahead : Ahead) → (serving : Serving settings old mid ahead) → mid.output ≡ new.output → WritesLast old.output new.output (reply_texts serving.answering.exchanges) []
+replies_alone settings old mid new ahead serving kept =
+    let P : SinkState → Type 0 = λ output. WritesLast old.output output (reply_texts serving.answering.exchanges) [] in
+    subst P kept (nothing_last old.output mid.output (reply_texts serving.answering.exchanges) serving.written)
 
-long_known : (left rest : Option (List ℕ)) (at : ℕ) (requests : List Request) → Known left rest (λ bytes rest. Spelled bytes requests rest × (at + length rest ≡ length bytes)) → IfSome rest (λ bytes. 1073741824 < at + length bytes)
-    → IfSome left (λ bytes. 1073741824 < length bytes)
-long_known None rest at requests known long = tt
-long_known (Some bytes) None at requests known long = absurd known
-long_known (Some bytes) (Some rest) at requests known long = omega (arith, long, known.1)
+-- what is read to the end after what was taken is all of the input
+all_read : (left mid : Option (List ℕ)) (taken read : List ℕ) → Consumes left mid taken → HasReadAll mid read → HasReadAll left (taken ++ read)
+all_read None mid taken read consumed all = tt
+all_read (Some bytes) None taken read consumed all = absurd consumed
+all_read (Some bytes) (Some rest) taken read consumed all = consumed ∙ ap (λ w. taken ++ w) all
 
-read_known : (left : Option (List ℕ)) (ahead : Ahead) (left' after : Option (List ℕ)) (requests : List Request) → Known left (rest_of ahead left') (λ bytes rest. Spelled bytes requests rest × (ahead.at + length rest ≡ length bytes)) → Known left' after (λ _ rest. rest ≡ [])
-    → Known left after (λ _ rest. rest ≡ [])
-read_known None ahead left' after requests known read = tt
-read_known (Some bytes) ahead None after requests known read = absurd known
-read_known (Some bytes) ahead (Some rest) None requests known read = absurd read
-read_known (Some bytes) ahead (Some rest) (Some none) requests known read = read
+-- the input is at its end
+pub done : (settings : Config) (old mid new : Session) (ahead ahead' : Ahead) → Serving settings old mid ahead → EndsInput (input_of ahead mid.input) (input_of ahead' new.input) → mid.service ≡ new.service → mid.output ≡ new.output
+    → AnswersPrefix settings old new Done
+done settings old mid new ahead ahead' serving ends same kept =
+    ended settings old mid new ahead ahead' ends.read Done serving.answering ends.has_read same (replies_alone settings old mid new ahead serving kept) (omega (arith, ends.place, ends.within))
+    (ends.blank, all_read old.input.left mid.input.left serving.answering.taken ends.read serving.answering.consumed ends.all)
 
-pub done : (config : Config) (moments left : Option (List ℕ)) (ahead : Ahead) (left' : Option (List ℕ)) (jobs : List (JobRow × State)) (later written written' : Option (List ℕ)) (reads reads' writes writes' : ℕ) (after : Option (List ℕ))
-    → Serving config moments left ahead left' jobs later written written' → EndsIn ahead left' after
-    → IsDone config moments (record { left = left; read_faults = reads; written = written; write_faults = writes }) (record { left = after; read_faults = reads'; written = written'; write_faults = writes' })
-done config moments left ahead left' jobs later written written' reads reads' writes writes' after serving ends = record {
-  rest = rest_of ahead left';
-  replies = serving.replies;
-  serves = serves_of config moments left ahead left' jobs later written written' serving;
-  at_end = ends.0;
-  read = read_known left ahead left' after serving.requests serving.spelled ends.1;
-  written = serving.added;
-}
+-- there is no memory
+no_memory : (settings : Config) (old mid new : Session) (ahead ahead' : Ahead) (read : List ℕ) → Serving settings old mid ahead → HasReadOn (input_of ahead mid.input) read (input_of ahead' new.input)
+    → taken_of ahead + length read ≤ 1073741824 → mid.service ≡ new.service → mid.output ≡ new.output → AnswersPrefix settings old new NoMemory
+no_memory settings old mid new ahead ahead' read serving has_read within same kept =
+    ended settings old mid new ahead ahead' read NoMemory serving.answering has_read same (replies_alone settings old mid new ahead serving kept) within tt
 
-bad : (config : Config) (moments left : Option (List ℕ)) (ahead : Ahead) (left' : Option (List ℕ)) (jobs : List (JobRow × State)) (later written mid written' : Option (List ℕ)) (reads reads' first writes writes' : ℕ) (after : Option (List ℕ)) (place : ℕ) (why : Refusal)
-    → Serving config moments left ahead left' jobs later written mid → place ≡ ahead.at → IfSome (rest_of ahead left') (λ bytes. IsRefused bytes why) → Tells (fault_at place why) mid writes written' writes' → first ≤ writes
-    → IsBad config moments (record { left = left; read_faults = reads; written = written; write_faults = first }) (record { left = after; read_faults = reads'; written = written'; write_faults = writes' })
-bad config moments left ahead left' jobs later written mid written' reads reads' first writes writes' after place why serving is refused (last, told, written_last) le = record {
-  rest = rest_of ahead left';
-  replies = serving.replies;
-  serves = serves_of config moments left ahead left' jobs later written mid serving;
-  place = place;
-  why = why;
-  refused = refused_known left (rest_of ahead left') ahead.at place serving.requests why is serving.spelled refused;
-  last = last;
-  told = told;
-  written = last_then written first mid writes written' writes' (texts serving.replies) (reply_text last) serving.added le written_last;
-}
+-- what is refused after the answered requests is refused in the whole input
+refused_whole : (left mid : Option (List ℕ)) (ahead : Ahead) (taken : List ℕ) (requests : List Request) (at : ℕ) (refusal : Refusal) → Consumes left mid taken → AreRequests taken requests ahead.bytes → length taken ≡ taken_of ahead → at ≡ ahead.at
+    → IfSome (prepend_known ahead.bytes mid) (λ bytes. IsRefused bytes refusal) → IfSome left (λ bytes. IsRefused (drop at bytes) refusal)
+refused_whole None mid ahead taken requests at refusal consumed are place here refused = tt
+refused_whole (Some bytes) None ahead taken requests at refusal consumed are place here refused = absurd consumed
+refused_whole (Some bytes) (Some left) ahead taken requests at refusal consumed are place here refused =
+    let pending = pending_at at taken requests ahead.bytes left are (omega (arith, place, here)) in
+    let P : List ℕ → Type 0 = λ bytes. IsRefused bytes refusal in
+    subst P (sym (ap (drop at) consumed ∙ pending)) refused
 
-cut : (config : Config) (moments left : Option (List ℕ)) (ahead : Ahead) (left' : Option (List ℕ)) (jobs : List (JobRow × State)) (later written mid written' : Option (List ℕ)) (reads reads' writes writes' : ℕ) (after : Option (List ℕ))
-    → Serving config moments left ahead left' jobs later written mid → Keeps mid written'
-    → IsCut config moments (record { left = left; read_faults = reads; written = written; write_faults = writes }) (record { left = after; read_faults = reads'; written = written'; write_faults = writes' })
-cut config moments left ahead left' jobs later written mid written' reads reads' writes writes' after serving kept = record {
-  rest = rest_of ahead left';
-  replies = serving.replies;
-  serves = serves_of config moments left ahead left' jobs later written mid serving;
-  written = Appends-kept written mid written' (texts serving.replies) serving.added kept;
-}
+-- the end that a refusal is
+refusal_is : (settings : Config) (old mid new : Session) (ahead ahead' : Ahead) (read : List ℕ) (at : ℕ) (refusal : Refusal) (end : End) → Serving settings old mid ahead → HasReadOn (input_of ahead mid.input) read (input_of ahead' new.input)
+    → taken_of ahead + length read ≤ 1073741824 → wire.IsRefusedAt (input_of ahead mid.input) at refusal → mid.service ≡ new.service → Reports mid.output new.output (BadInput at refusal) end → AnswersPrefix settings old new end
+refusal_is settings old mid new ahead ahead' read at refusal end serving has_read within refused same (inl reported) =
+    let P : End → Type 0 = AnswersPrefix settings old new in
+    subst P (sym reported.same) (ended settings old mid new ahead ahead' read (BadInput at refusal) serving.answering has_read same
+    (last_then old.output mid.output new.output (reply_texts serving.answering.exchanges) (last_text (BadInput at refusal)) serving.written serving.writes reported.written) within
+    (record {
+      place = (let whole = length_then serving.answering.taken read (taken_of ahead) (taken_of ahead + length read) serving.answering.place refl in omega (arith, whole, refused.0, length-append ahead.bytes read));
+      refused = refused_whole old.input.left mid.input.left ahead serving.answering.taken (requests_of serving.answering.exchanges) at refusal serving.answering.consumed serving.answering.requests serving.answering.place refused.0 refused.1;
+    }))
+refusal_is settings old mid new ahead ahead' read at refusal end serving has_read within refused same (inr unreported) =
+    let P : End → Type 0 = AnswersPrefix settings old new in
+    subst P (sym unreported.memory) (no_memory settings old mid new ahead ahead' read serving has_read within same unreported.output)
 
-too_long : (config : Config) (moments left : Option (List ℕ)) (ahead : Ahead) (left' : Option (List ℕ)) (jobs : List (JobRow × State)) (later written mid written' : Option (List ℕ)) (reads reads' first writes writes' : ℕ) (after : Option (List ℕ))
-    → Serving config moments left ahead left' jobs later written mid → IfSome (rest_of ahead left') (λ bytes. 1073741824 < ahead.at + length bytes) → WritesLast mid writes written' writes' [] (codes "input too long\n") → first ≤ writes
-    → IsTooLong config moments (record { left = left; read_faults = reads; written = written; write_faults = first }) (record { left = after; read_faults = reads'; written = written'; write_faults = writes' })
-too_long config moments left ahead left' jobs later written mid written' reads reads' first writes writes' after serving long written_last le = record {
-  rest = rest_of ahead left';
-  replies = serving.replies;
-  serves = serves_of config moments left ahead left' jobs later written mid serving;
-  long = long_known left (rest_of ahead left') ahead.at serving.requests serving.spelled long;
-  written = last_then written first mid writes written' writes' (texts serving.replies) (codes "input too long\n") serving.added le written_last;
-}
-
--- the stream's fault ends the run
-pub by_fault : (config : Config) (moments left : Option (List ℕ)) (ahead : Ahead) (left' : Option (List ℕ)) (jobs : List (JobRow × State)) (later written mid written' : Option (List ℕ)) (earliest reads reads' first writes writes' : ℕ) (after : Option (List ℕ)) (fault : WireFault) (end : End)
-    → Serving config moments left ahead left' jobs later written mid → HasCause ahead left' reads reads' fault → EndsBy fault mid writes written' writes' end → earliest ≤ reads → first ≤ writes
-    → HasServed config moments (record { left = left; read_faults = earliest; written = written; write_faults = first }) (record { left = after; read_faults = reads'; written = written'; write_faults = writes' }) end
-by_fault config moments left ahead left' jobs later written mid written' earliest reads reads' first writes writes' after (faults.BadRequest at) end serving (is, refused) (ended, tells) le le' =
-    let P : End → Type 0 = HasServed config moments (record { left = left; read_faults = earliest; written = written; write_faults = first }) (record { left = after; read_faults = reads'; written = written'; write_faults = writes' }) in
-    subst P (sym ended) (bad config moments left ahead left' jobs later written mid written' earliest reads' first writes writes' after at Bad serving is refused tells le')
-by_fault config moments left ahead left' jobs later written mid written' earliest reads reads' first writes writes' after (faults.TooLarge at len) end serving (is, refused) (ended, tells) le le' =
-    let P : End → Type 0 = HasServed config moments (record { left = left; read_faults = earliest; written = written; write_faults = first }) (record { left = after; read_faults = reads'; written = written'; write_faults = writes' }) in
-    subst P (sym ended) (bad config moments left ahead left' jobs later written mid written' earliest reads' first writes writes' after at (TooLarge len) serving is refused tells le')
-by_fault config moments left ahead left' jobs later written mid written' earliest reads reads' first writes writes' after (faults.Unsupported at) end serving (is, refused) (ended, tells) le le' =
-    let P : End → Type 0 = HasServed config moments (record { left = left; read_faults = earliest; written = written; write_faults = first }) (record { left = after; read_faults = reads'; written = written'; write_faults = writes' }) in
-    subst P (sym ended) (bad config moments left ahead left' jobs later written mid written' earliest reads' first writes writes' after at Unsupported serving is refused tells le')
-by_fault config moments left ahead left' jobs later written mid written' earliest reads reads' first writes writes' after faults.ReadFault end serving rose (ended, kept) le le' =
-    let P : End → Type 0 = HasServed config moments (record { left = left; read_faults = earliest; written = written; write_faults = first }) (record { left = after; read_faults = reads'; written = written'; write_faults = writes' }) in
-    subst P (sym ended) (rose_from earliest reads reads' le rose, cut config moments left ahead left' jobs later written mid written' earliest reads' first writes' after serving kept)
-by_fault config moments left ahead left' jobs later written mid written' earliest reads reads' first writes writes' after faults.InputTooLong end serving long (ended, written_last) le le' =
-    let P : End → Type 0 = HasServed config moments (record { left = left; read_faults = earliest; written = written; write_faults = first }) (record { left = after; read_faults = reads'; written = written'; write_faults = writes' }) in
-    subst P (sym ended) (too_long config moments left ahead left' jobs later written mid written' earliest reads' first writes writes' after serving long written_last le')
-by_fault config moments left ahead left' jobs later written mid written' earliest reads reads' first writes writes' after faults.NoMemory end serving cause (ended, kept) le le' =
-    let P : End → Type 0 = HasServed config moments (record { left = left; read_faults = earliest; written = written; write_faults = first }) (record { left = after; read_faults = reads'; written = written'; write_faults = writes' }) in
-    subst P (sym ended) (cut config moments left ahead left' jobs later written mid written' earliest reads' first writes' after serving kept)
-
-pub err_known : {T E : Type 0} (r : Result T E) (P : Type 0) → is_err r ≡ true → OnErr r P → P
-err_known (Ok x) P never fact = (cc)
-err_known (Err e) P is fact = fact
-
-pub ok_known : {T E : Type 0} (r : Result T E) (P : Type 0) → is_err r ≡ false → OnOk r P → P
-ok_known (Ok x) P is fact = fact
-ok_known (Err e) P never fact = (cc)
+-- a fault of the stream is the end
+pub by_fault : (settings : Config) (old mid new : Session) (ahead ahead' : Ahead) (fault : WireFault) (end : End) → Serving settings old mid ahead → FailsWith (input_of ahead mid.input) fault (input_of ahead' new.input)
+    → mid.service ≡ new.service → Reports mid.output new.output (fault_end fault) end → AnswersPrefix settings old new end
+by_fault settings old mid new ahead ahead' (faults.BadRequest at) end serving fails same reports = refusal_is settings old mid new ahead ahead' fails.read at refusals.Bad end serving fails.has_read fails.within fails.cause same reports
+by_fault settings old mid new ahead ahead' (faults.TooLarge at len) end serving fails same reports = refusal_is settings old mid new ahead ahead' fails.read at (refusals.TooLarge len) end serving fails.has_read fails.within fails.cause same reports
+by_fault settings old mid new ahead ahead' (faults.Unsupported at) end serving fails same reports = refusal_is settings old mid new ahead ahead' fails.read at refusals.Unsupported end serving fails.has_read fails.within fails.cause same reports
+by_fault settings old mid new ahead ahead' faults.ReadFault end serving fails same reported =
+    let P : End → Type 0 = AnswersPrefix settings old new in
+    subst P (sym reported.same) (ended settings old mid new ahead ahead' fails.read ReadFault serving.answering fails.has_read same
+    (last_then old.output mid.output new.output (reply_texts serving.answering.exchanges) [] serving.written serving.writes reported.written) fails.within
+    (rose_from old.input.faults mid.input.faults new.input.faults serving.answering.reads fails.cause.0, fails.cause.1))
+by_fault settings old mid new ahead ahead' faults.InputTooLong end serving fails same reported =
+    let P : End → Type 0 = AnswersPrefix settings old new in
+    subst P (sym reported.same) (ended settings old mid new ahead ahead' fails.read InputTooLong serving.answering fails.has_read same
+    (last_then old.output mid.output new.output (reply_texts serving.answering.exchanges) (last_text InputTooLong) serving.written serving.writes reported.written) fails.within
+    (record {
+      within = ahead.bytes ++ fails.cause.prefix;
+      extra = fails.cause.extra;
+      parts = ap (λ w. ahead.bytes ++ w) fails.cause.parts ∙ sym (append_assoc ahead.bytes fails.cause.prefix (fails.cause.extra ∷ []));
+      full = (
+          let whole = length_then serving.answering.taken fails.read (taken_of ahead) (taken_of ahead + length fails.read) serving.answering.place refl in
+          let read = ap length fails.cause.parts ∙ length-append fails.cause.prefix (fails.cause.extra ∷ []) in
+          omega (arith, whole, read, fails.cause.full)
+          );
+      unfinished = fails.cause.so;
+    }))
+by_fault settings old mid new ahead ahead' faults.NoMemory end serving fails same reported =
+    let P : End → Type 0 = AnswersPrefix settings old new in
+    subst P (sym reported.same) (ended settings old mid new ahead ahead' fails.read NoMemory serving.answering fails.has_read same
+    (last_then old.output mid.output new.output (reply_texts serving.answering.exchanges) [] serving.written serving.writes reported.written) fails.within tt)

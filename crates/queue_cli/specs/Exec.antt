@@ -1,108 +1,116 @@
--- How a run over requests may end, and what was written then.
-use Rattle.std.specs.Prelude.{◌≡◌, ◌⊎◌, ◌+◌, ◌<◌, ◌≤◌, ℕ, List, [], ◌++◌, length, codes, Option, Some, IfSome}
-use Rattle.std.specs.Io.KnownBytes.{Keeps, Appends}
+-- What `exec` does: requests are read back to back and answered in turn.
+use Rattle.std.specs.Prelude.{◌≡◌, ◌+◌, ◌≤◌, ℕ, List, [], ◌∷◌, ◌++◌, length, map, drop, IfSome}
+use Rattle.std.specs.List.{flat_map, FoldsTo}
+use Rattle.std.specs.Io.KnownBytes.{Consumes}
 use Rattle.job_states.specs.declared.job.JobRow.{JobRow}
 use Rattle.job_states.specs.declared.job.State.{State}
 use Rattle.sq_outside.specs.Fault.{Rose}
+use Rattle.sq_outside.specs.Streams.{SourceState, SinkState}
 use Rattle.http_wire.specs.declared.head.Refusal.{Refusal}
+use Rattle.http_wire.specs.declared.head.Refusal.TheVariants as refusals
 use Rattle.http_wire.specs.declared.request.Request.{Request}
-use Rattle.http_wire.specs.declared.request.TheConstants.{MAX_INPUT}
 use Rattle.http_wire.specs.declared.request.WireFault.{WireFault}
 use Rattle.http_wire.specs.declared.request.WireFault.TheVariants as faults
 use Rattle.http_wire.specs.declared.reply.Reply.{Reply}
-use Rattle.http_wire.specs.Reply.{reply_text, AppendsFront}
-use Rattle.http_wire.specs.Stream.{Known, IsEnd, IsRefused, IsWithinInput, IsPastInput, fault_at}
+use Rattle.http_wire.specs.Reply.{reply_text}
+use Rattle.http_wire.specs.Stream.{IsRequest, IsEnd, IsRefused, IsUnfinished, HasReadAll}
 use Rattle.queue_config.specs.declared.config.Config.{Config}
-use Rattle.queue_http.specs.Replies.{refusal, no_memory}
-use Rattle.queue_cli.specs.declared.outcome.End.{End}
-use Rattle.queue_cli.specs.declared.outcome.End.TheVariants.{Done, BadInput, Usage, BadSettings, ReadFault, WriteFault, NoMemory, InputTooLong}
-use Rattle.queue_cli.specs.Service.{Spelled, Served, texts}
-use Rattle.queue_cli.specs.Streams.{Streams}
+use Rattle.queue_http.specs.Service.{Service, Answers}
+use Rattle.queue_cli.specs.declared.end.End.{End}
+use Rattle.queue_cli.specs.declared.end.End.TheVariants.{Done, BadInput, Usage, BadSettings, ReadFault, WriteFault, NoMemory, InputTooLong}
+use Rattle.queue_cli.specs.LastText.{last_text, WritesLast}
 
--- the requests at the front of the input were answered in turn; rest is what follows them
-pub record Serves (config : Config) (moments left rest : Option (List ℕ)) (replies : List Reply) : Type 0 where
-  pub requests : List Request
-  pub spelled : Known left rest (λ bytes rest. Spelled bytes requests rest)
-  pub jobs : List (JobRow × State)
-  pub later : Option (List ℕ)
-  pub served : Served config [] moments requests replies jobs later
+-- what it works on
+pub record Session : Type 0 where
+  pub service : Service
+  pub input : SourceState
+  pub output : SinkState
 
--- front was written, and then the last piece, or a front of it where the output failed
-pub record WritesLast (old : Option (List ℕ)) (before : ℕ) (new : Option (List ℕ)) (after : ℕ) (front last : List ℕ) : Type 0 where
-  pub part : List ℕ
-  pub behind : List ℕ
-  pub parts : last ≡ part ++ behind
-  pub written : Appends old new (front ++ part)
-  pub whole : (behind ≡ []) ⊎ Rose before after
+abbrev pub session : Service → SourceState → SinkState → Session
+session service input output = record { service = service; input = input; output = output }
 
--- the input was read to its end
-pub record IsDone (config : Config) (moments : Option (List ℕ)) (old new : Streams) : Type 0 where
-  pub rest : Option (List ℕ)
-  pub replies : List Reply
-  pub serves : Serves config moments old.left rest replies
-  pub at_end : IfSome rest IsEnd
-  pub read : Known old.left new.left (λ _ left. left ≡ [])
-  pub written : Appends old.written new.written (texts replies)
+-- ---- the answered requests
 
--- the rest of the input is refused at its place, and this is said
-pub record IsBad (config : Config) (moments : Option (List ℕ)) (old new : Streams) : Type 0 where
-  pub rest : Option (List ℕ)
-  pub replies : List Reply
-  pub serves : Serves config moments old.left rest replies
-  pub place : ℕ
-  pub why : Refusal
-  pub refused : Known old.left rest (λ bytes rest. IsRefused rest why × (place + length rest ≡ length bytes))
-  pub last : Reply
-  pub told : (refusal (fault_at place why) ≡ Some last) ⊎ (last ≡ no_memory)
-  pub written : WritesLast old.written old.write_faults new.written new.write_faults (texts replies) (reply_text last)
+pub record Exchange : Type 0 where
+  pub request : Request
+  pub reply : Reply
 
--- some requests were answered, and their replies are what was written
-pub record IsCut (config : Config) (moments : Option (List ℕ)) (old new : Streams) : Type 0 where
-  pub rest : Option (List ℕ)
-  pub replies : List Reply
-  pub serves : Serves config moments old.left rest replies
-  pub written : Appends old.written new.written (texts replies)
+abbrev pub requests_of : List Exchange → List Request
+requests_of exchanges = map (λ exchange. exchange.request) exchanges
 
--- the output failed: what was written is a front of the replies
-pub record IsUnwritten (config : Config) (moments : Option (List ℕ)) (old new : Streams) : Type 0 where
-  pub rest : Option (List ℕ)
-  pub replies : List Reply
-  pub serves : Serves config moments old.left rest replies
-  pub written : AppendsFront old.written new.written (texts replies)
+-- the bytes of the replies
+abbrev pub reply_texts : List Exchange → List ℕ
+reply_texts exchanges = flat_map (λ exchange. reply_text exchange.reply) exchanges
 
--- the input is longer than what is taken, and this is said
-pub record IsTooLong (config : Config) (moments : Option (List ℕ)) (old new : Streams) : Type 0 where
-  pub rest : Option (List ℕ)
-  pub replies : List Reply
-  pub serves : Serves config moments old.left rest replies
-  pub long : IfSome old.left (λ bytes. MAX_INPUT < length bytes)
-  pub written : WritesLast old.written old.write_faults new.written new.write_faults (texts replies) (codes "input too long\n")
+-- bytes are these requests, back to back, and then rest
+abbrev pub AreRequests : List ℕ → List Request → List ℕ → Type 0
+AreRequests bytes requests rest = FoldsTo IsRequest bytes requests rest
 
--- what each end says of the streams, from the old ones to the new ones
-abbrev pub HasServed : Config → Option (List ℕ) → Streams → Streams → End → Type 0
-HasServed config moments old new Done = IsDone config moments old new
-HasServed config moments old new BadInput = IsBad config moments old new
-HasServed config moments old new ReadFault = Rose old.read_faults new.read_faults × IsCut config moments old new
-HasServed config moments old new WriteFault = Rose old.write_faults new.write_faults × IsUnwritten config moments old new
-HasServed config moments old new NoMemory = IsCut config moments old new
-HasServed config moments old new InputTooLong = IsTooLong config moments old new
-HasServed config moments old new Usage = ⊥
-HasServed config moments old new BadSettings = ⊥
+-- the requests are answered in turn
+abbrev pub AreAnswered : Config → Service → List Exchange → Service → Type 0
+AreAnswered settings old exchanges new = FoldsTo (λ old exchange new. Answers settings old exchange.request exchange.reply new) old exchanges new
 
--- how many bytes of the input are taken: one more than it may have tells that it is too long
-abbrev pub HasTaken : Option (List ℕ) → Option (List ℕ) → End → Type 0
-HasTaken left left' InputTooLong = IsPastInput 0 left left'
-HasTaken left left' _ = IsWithinInput 0 left left'
+-- ---- how it ends
 
--- the refusal's reply is the last that is written
-abbrev pub Tells : WireFault → Option (List ℕ) → ℕ → Option (List ℕ) → ℕ → Type 0
-Tells fault old before new after = (last : Reply) × ((refusal fault ≡ Some last) ⊎ (last ≡ no_memory)) × WritesLast old before new after [] (reply_text last)
+-- the end that a fault of the input is
+abbrev pub fault_end : WireFault → End
+fault_end (faults.BadRequest at) = BadInput at refusals.Bad
+fault_end (faults.TooLarge at len) = BadInput at (refusals.TooLarge len)
+fault_end (faults.Unsupported at) = BadInput at refusals.Unsupported
+fault_end faults.ReadFault = ReadFault
+fault_end faults.InputTooLong = InputTooLong
+fault_end faults.NoMemory = NoMemory
 
--- what a fault of the stream ends a run with
-abbrev pub EndsBy : WireFault → Option (List ℕ) → ℕ → Option (List ℕ) → ℕ → End → Type 0
-EndsBy (faults.BadRequest at) old before new after end = (end ≡ BadInput) × Tells (faults.BadRequest at) old before new after
-EndsBy (faults.TooLarge at len) old before new after end = (end ≡ BadInput) × Tells (faults.TooLarge at len) old before new after
-EndsBy (faults.Unsupported at) old before new after end = (end ≡ BadInput) × Tells (faults.Unsupported at) old before new after
-EndsBy faults.ReadFault old before new after end = (end ≡ ReadFault) × Keeps old new
-EndsBy faults.InputTooLong old before new after end = (end ≡ InputTooLong) × WritesLast old before new after [] (codes "input too long\n")
-EndsBy faults.NoMemory old before new after end = (end ≡ NoMemory) × Keeps old new
+-- as many bytes as an input may have were taken, and one more: without it the pending ones are unfinished
+pub record IsTooLong (taken pending : List ℕ) : Type 0 where
+  pub within : List ℕ
+  pub extra : ℕ
+  pub parts : pending ≡ within ++ extra ∷ []
+  pub full : length taken ≡ 1_073_741_825
+  pub unfinished : IsUnfinished within
+
+-- the input is refused from this place on, where the pending bytes begin
+pub record IsRefusedAt (at : ℕ) (refusal : Refusal) (old : SourceState) (taken pending : List ℕ) : Type 0 where
+  pub place : at + length pending ≡ length taken
+  pub refused : IfSome old.left (λ bytes. IsRefused (drop at bytes) refusal)
+
+-- why it ends; of the taken bytes the pending ones follow the answered requests
+abbrev pub EndsFor : SourceState → SourceState → List ℕ → List ℕ → End → Type 0
+EndsFor old new taken pending Done = IsEnd pending × HasReadAll old.left taken
+EndsFor old new taken pending (BadInput at refusal) = IsRefusedAt at refusal old taken pending
+EndsFor old new taken pending ReadFault = Rose old.faults new.faults × IsUnfinished pending
+EndsFor old new taken pending WriteFault = Unit {0}
+EndsFor old new taken pending NoMemory = Unit {0}
+EndsFor old new taken pending InputTooLong = IsTooLong taken pending
+EndsFor old new taken pending _ = ⊥
+
+-- the last reply is not all there: the output failed
+pub record LacksLastReply (old new : SinkState) (exchanges : List Exchange) : Type 0 where
+  pub before : List Exchange
+  pub last : Exchange
+  pub exchanges_are : exchanges ≡ before ++ last ∷ []
+  pub written : WritesLast old new (reply_texts before) (reply_text last.reply)
+  pub fault : Rose old.faults new.faults
+
+-- each reply was written, and then the last text of the end, unless the end is that a reply couldn't be written
+abbrev pub WritesReplies : SinkState → SinkState → List Exchange → End → Type 0
+WritesReplies old new exchanges WriteFault = LacksLastReply old new exchanges
+WritesReplies old new exchanges end = WritesLast old new (reply_texts exchanges) (last_text end)
+
+-- at most so many bytes are taken
+abbrev pub most_taken : End → ℕ
+most_taken InputTooLong = 1_073_741_825
+most_taken _ = 1_073_741_824
+
+-- the first requests of the input were answered in turn, from the old service to the new one, until the end came
+pub record AnswersPrefix (settings : Config) (old new : Session) (end : End) : Type 0 where
+  -- what was taken of the input: the answered requests, and then the pending bytes
+  pub taken : List ℕ
+  pub exchanges : List Exchange
+  pub pending : List ℕ
+  pub consumed : Consumes old.input.left new.input.left taken
+  pub within : length taken ≤ most_taken end
+  pub requests : AreRequests taken (requests_of exchanges) pending
+  pub answers : AreAnswered settings old.service exchanges new.service
+  pub written : WritesReplies old.output new.output exchanges end
+  pub cause : EndsFor old.input new.input taken pending end

@@ -1,6 +1,7 @@
+pub mod Command
 pub mod Exec
-pub mod Outcome
-pub mod Service
+pub mod ExitStatus
+pub mod LastText
+pub mod Outside
+pub mod Run
 pub mod Settings
-pub mod Status
-pub mod Streams

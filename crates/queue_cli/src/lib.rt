@@ -2,11 +2,11 @@
 #![tactic(auto)]
 
 mod command;
+mod end;
 mod exec;
-mod outcome;
 mod settings;
 #[cfg(test)]
 mod tests;
 
 pub use command::run;
-pub use outcome::End;
+pub use end::End;

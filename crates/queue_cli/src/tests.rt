@@ -1,5 +1,5 @@
 use crate::run;
-use sq_outside::{Failed, MemClock, MemSink, MemSource, Sink, Source, SureSource};
+use sq_outside::{MemClock, MemSink, MemSource, Source, SureSource, Trickle};
 use std::alloc::Global;
 use std::test::Fail;
 
@@ -29,26 +29,13 @@ const NOT_BUILT: &[u8] =
 const CUT: &[u8] =
     b"HTTP/1.1 400 Bad Request\r\nContent-Type: application/json\r\nContent-Length: 31\r\n\r\n{\"at\":74,\"error\":\"bad_request\"}";
 
-// Gives one byte at a time.
-#[derive(Drop)]
-struct Narrow(MemSource);
-
-impl Source for Narrow {
-    ghost use Rattle.std.specs.Prelude.{Some};
-
-    ghost left = { λ s. Some s.0.bytes };
-
-    ghost faults = { λ s. s.0.faults };
-
-    fn read(&mut self, buf: &mut [u8]) -> Result<usize, Failed> {
-        let room = buf.len().min(1);
-        self.0.read(&mut buf[..room])
-    }
+fn failing(alloc: Global, bytes: &[u8], fail: &[u64]) -> Result<MemSource, Fail> {
+    let fail = Vec::from_slice(alloc, fail)?;
+    Ok(MemSource::new(Vec::from_slice(alloc, bytes)?, fail))
 }
 
-fn byte_by_byte(alloc: Global, bytes: &[u8], fail: &[u64]) -> Result<Narrow, Fail> {
-    let fail = Vec::from_slice(alloc, fail)?;
-    Ok(Narrow(MemSource::new(Vec::from_slice(alloc, bytes)?, fail)))
+fn byte_by_byte(alloc: Global, bytes: &[u8], fail: &[u64]) -> Result<Trickle<MemSource>, Fail> {
+    Ok(Trickle::new(failing(alloc, bytes, fail)?, 1))
 }
 
 fn joined(alloc: Global, parts: &[&[u8]]) -> Result<Vec<u8>, Fail> {
@@ -98,14 +85,14 @@ fn requests_are_answered_in_turn(rt: HostRuntime) -> Result<(), Fail> {
     let four = joined(alloc, &[FIRST, b"GET / HTTP/1.1\r\n\r\n", OTHER, FIRST])?;
     let answers = joined(alloc, &[CREATED, NOT_BUILT, UNKNOWN, CREATED_NEXT])?;
     let cut = joined(alloc, &[FIRST, &FIRST[..60]])?;
-    let told = joined(alloc, &[CREATED, CUT])?;
+    let refused = joined(alloc, &[CREATED, CUT])?;
     for (stream, expected, status) in [
         (b"".as_slice(), b"".as_slice(), 0),
         (FIRST, CREATED, 0),
         (empty, MISSING, 0),
         (b"GET / HTTP/1.1\r\n\r\n", NOT_BUILT, 0),
         (&four, &answers, 0),
-        (&cut, &told, 1),
+        (&cut, &refused, 1),
     ] {
         let mut whole = MemSink::new(alloc, Vec::new(alloc));
         let mut source = SureSource::new(Vec::from_slice(alloc, stream)?);
@@ -187,11 +174,15 @@ fn streams_that_fail_end_the_run(rt: HostRuntime) -> Result<(), Fail> {
         assert!(rt; sink.bytes().is_empty());
     }
 
-    // The call behind the whole request.
+    // What was read whole is answered: two requests in one piece.
+    let two = joined(alloc, &[FIRST, FIRST])?;
     let mut sink = MemSink::new(alloc, Vec::new(alloc));
-    let mut source = byte_by_byte(alloc, FIRST, &[75])?;
+    let mut source = failing(alloc, &two, &[2])?;
     assert_eq!(rt; ran(alloc, &["exec"], &mut source, &mut sink)?, 4);
-    assert_eq!(rt; sink.bytes(), CREATED);
+    assert_eq!(rt;
+        sink.bytes(),
+        joined(alloc, &[CREATED, CREATED_NEXT])?.as_slice()
+    );
 
     for call in 1..=2 {
         let mut sink = MemSink::new(alloc, vec![in alloc; call]?);

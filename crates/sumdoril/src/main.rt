@@ -2,7 +2,8 @@
 #![tactic(auto)]
 
 use queue_cli::{End, run};
-use sq_outside::{HostClock, Opened, StreamSink, StreamSource};
+use sq_outside::{HostClock, OptionalFile, StreamSink, StreamSource};
+use std::io::ErrorKind;
 use std::process::ExitCode;
 use std::{env, fs, io};
 
@@ -10,14 +11,14 @@ use std::{env, fs, io};
 const SETTINGS: &str = "queue.toml";
 
 fn main(rt: HostRuntime) -> ExitCode {
-    let status = run_with(&rt).unwrap_or(End::NoMemory.status());
+    let status = run_with(&rt).unwrap_or(End::NoMemory.exit_status());
     ExitCode::from(status)
 }
 
-// The words are those behind the program's name. There is an `Err` where there is no memory for them.
+// There is an `Err` where there is no memory for the words or the clock.
 fn run_with(rt: &HostRuntime) -> io::Result<u8> {
-    let words: Vec<String> = env::args(rt)?.skip(1).collect(rt.alloc())?;
-    let mut config = StreamSource::new(Opened::of(fs::open(rt, SETTINGS)));
+    let words = words_of(rt)?;
+    let mut config = StreamSource::new(OptionalFile::of(fs::open(rt, SETTINGS)));
     let mut input = StreamSource::new(rt.reader());
     let mut output = StreamSink::new(io::writer(rt));
     let mut clock = HostClock::new(rt.clone()?);
@@ -29,4 +30,13 @@ fn run_with(rt: &HostRuntime) -> io::Result<u8> {
         &mut output,
         &mut clock,
     ))
+}
+
+// The words after the program's name. Where one isn't UTF-8 they are no command, as no words are none.
+fn words_of(rt: &HostRuntime) -> io::Result<Vec<String>> {
+    match env::args(rt) {
+        Ok(args) => Ok(args.skip(1).collect(rt.alloc())?),
+        Err(error) if error.kind() == ErrorKind::InvalidData => Ok(Vec::new(rt.alloc())),
+        Err(error) => Err(error),
+    }
 }

@@ -1,29 +1,16 @@
-use Rattle.std.proofs.Common.{◌≡◌, ◌⊎◌, sym, subst, ℕ, List}
-use Rattle.queue_cli.specs.Outcome.{HasOutcome}
-use Rattle.queue_cli.specs.Streams.{Told, Streams}
-use Rattle.queue_cli.proofs.Reading.{complete_run, refused_run}
+use Rattle.std.proofs.Common.{map, string_bytes, Option, subst}
+use Rattle.queue_cli.specs.declared.command.Command.{Command}
+use Rattle.queue_cli.specs.Outside.{Outside, outside}
+use Rattle.queue_cli.specs.Run.{Performs}
+use Rattle.queue_cli.proofs.Reading.{runs}
 use Rattle.queue_cli.proofs.command.run.Goals as goal
 
-pub returns-clause-complete : goal.returns-clause-complete
-returns-clause-complete g c words text settings told accepted bytes requests rest left spelled at_end short config reads writes =
-    let moments = g.C.Clock.moments c.args.clock.now in
-    let file : Told = record { left = g.S1.Source.left c.args.config.now; faults = g.S1.Source.faults c.args.config.now } in
-    let file' : Told = record { left = g.S1.Source.left c.run_words-end.new.config; faults = g.S1.Source.faults c.run_words-end.new.config } in
-    let old : Streams = record { left = g.S2.Source.left c.args.input.now; read_faults = g.S2.Source.faults c.args.input.now; written = g.K.Sink.written c.args.output.now; write_faults = g.K.Sink.faults c.args.output.now } in
-    let new : Streams = record { left = g.S2.Source.left c.run_words-end.new.input; read_faults = g.S2.Source.faults c.run_words-end.new.input; written = g.K.Sink.written c.run_words-end.new.output; write_faults = g.K.Sink.faults c.run_words-end.new.output } in
-    let P : List (List ℕ) → Type 0 = λ words. HasOutcome words moments file file' old new c.run_words-end.result in
-    let Q : ℕ → Type 0 = λ status. (status ≡ 0) ⊎ (status ≡ 7) in
-    subst Q (sym c.status.ensures)
-    (complete_run c.reads_one_way.ensures.one c.reads_one_way.ensures.goes_on c.reads_one_way.ensures.taken moments file file' old new c.run_words-end.result
-    (subst P words c.run_words-end.ensures.outcome) text settings told accepted bytes requests rest left spelled at_end short config reads writes)
-
-pub returns-clause-refused : goal.returns-clause-refused
-returns-clause-refused g c words text number key told refused reads =
-    let moments = g.C.Clock.moments c.args.clock.now in
-    let file : Told = record { left = g.S1.Source.left c.args.config.now; faults = g.S1.Source.faults c.args.config.now } in
-    let file' : Told = record { left = g.S1.Source.left c.run_words-end.new.config; faults = g.S1.Source.faults c.run_words-end.new.config } in
-    let old : Streams = record { left = g.S2.Source.left c.args.input.now; read_faults = g.S2.Source.faults c.args.input.now; written = g.K.Sink.written c.args.output.now; write_faults = g.K.Sink.faults c.args.output.now } in
-    let new : Streams = record { left = g.S2.Source.left c.run_words-end.new.input; read_faults = g.S2.Source.faults c.run_words-end.new.input; written = g.K.Sink.written c.run_words-end.new.output; write_faults = g.K.Sink.faults c.run_words-end.new.output } in
-    let P : List (List ℕ) → Type 0 = λ words. HasOutcome words moments file file' old new c.run_words-end.result in
-    let Q : ℕ → Type 0 = λ status. (status ≡ 3) ⊎ (status ≡ 7) in
-    subst Q (sym c.status.ensures) (refused_run moments file file' old new c.run_words-end.result (subst P words c.run_words-end.ensures.outcome) text number key told refused reads)
+pub returns : goal.returns
+returns g c =
+    let old : Outside = outside (g.S1.Source.source_state c.args.config.now) (g.S2.Source.source_state c.args.input.now) (g.K.Sink.sink_state c.args.output.now) (g.C.Clock.moments c.args.clock.now) in
+    let new : Outside = outside (g.S1.Source.source_state c.perform-end.new.config) (g.S2.Source.source_state c.perform-end.new.input) (g.K.Sink.sink_state c.perform-end.new.output) (g.C.Clock.moments c.perform-end.new.clock) in
+    let P : Option Command → Type 0 = λ command. Performs command old new c.perform-end.result in
+    record {
+      runs = runs (map string_bytes c.args.words.now) old new c.perform-end.result c.exit_status.result
+          (subst P c.of_words.ensures c.perform-end.ensures) c.exit_status.ensures;
+    }

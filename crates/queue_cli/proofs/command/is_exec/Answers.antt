@@ -1,5 +1,0 @@
-use Rattle.queue_cli.proofs.Words.{tells_exec}
-use Rattle.queue_cli.proofs.command.is_exec.Goals as goal
-
-pub returns-in-len1 : goal.returns-in-len1
-returns-in-len1 c = tells_exec c.args.words.now c.word-item.result c.as_str.result.now c.eq.result c.in-len1.len_at_least c.in-len1.len_below c.word-item.is c.as_str.ensures.value c.eq.ensures

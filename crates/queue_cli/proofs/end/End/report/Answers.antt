@@ -1,0 +1,20 @@
+use Rattle.std.proofs.Common.{◌≡◌, ◌∙◌, inl, refl, ap, sym, subst}
+use Rattle.http_wire.specs.Reply.{reply_text}
+use Rattle.queue_cli.specs.declared.end.End.{End}
+use Rattle.queue_cli.specs.LastText.{settings_line, Reports}
+use Rattle.queue_cli.proofs.Ends.{last_written}
+use Rattle.queue_cli.proofs.end.End.report.Goals as goal
+
+pub returns-in-Ok-clause-reports : goal.returns-in-Ok-clause-reports
+returns-in-Ok-clause-reports g c =
+    rw c.in-BadInput.is (inl (record {
+      same = refl;
+      written = last_written c.write_reply.result _ _ (reply_text c.in-Ok.reply) _ (ap reply_text c.in-Ok.ensures.reply) c.write_reply.ensures.whole c.write_reply.ensures.prefix c.write_reply.ensures.cause;
+    }))
+
+pub returns-in-Ok-settings_line-clause-reports : goal.returns-in-Ok-settings_line-clause-reports
+returns-in-Ok-settings_line-clause-reports g c =
+    rw c.in-BadSettings.is (inl (record {
+      same = refl;
+      written = last_written c.write_all.result _ _ c.as_bytes.result.now _ (c.as_bytes.ensures.value ∙ c.in-Ok-settings_line.ensures ∙ ap (settings_line c.in-BadSettings.number) c.as_str.ensures) c.write_all.ensures.whole c.write_all.ensures.prefix c.write_all.ensures.cause;
+    }))

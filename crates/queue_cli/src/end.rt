@@ -1,0 +1,109 @@
+//! How a run ends, and what is written last.
+ghost use Rattle.std.specs.Prelude.{◌≡◌, ◌≤◌, string_bytes, IfOk};
+ghost use Rattle.queue_cli.specs.Exec.{fault_end};
+ghost use Rattle.queue_cli.specs.ExitStatus as status;
+ghost use Rattle.queue_cli.specs.LastText.{settings_line, Reports};
+
+use http_wire::{Refusal, WireFault, write_all, write_reply};
+use queue_config::Key;
+use queue_http::fault_reply;
+use sq_outside::Sink;
+use std::alloc::{AllocError, Global};
+
+/// How a run ended.
+#[derive(Drop)]
+pub enum End {
+    /// The command was done; its input was read to the end.
+    Done,
+    /// The input isn't a sequence of requests: this is refused at this place.
+    BadInput { at: u64, refusal: Refusal },
+    /// The words are no command.
+    Usage,
+    /// The settings are refused: the number of what is wrong, and the key that has it.
+    BadSettings { number: u8, key: Key },
+    /// The settings' source or the input failed.
+    ReadFault,
+    /// The output failed, or took nothing.
+    WriteFault,
+    /// There was no memory.
+    NoMemory,
+    /// 2^30 bytes of input were taken, and it goes on.
+    InputTooLong,
+}
+
+impl End {
+    /// The program's exit status.
+    pub fn exit_status(&self) -> u8
+        ensures { result ≡ status.exit_status self.now }
+    {
+        match self {
+            End::Done => 0,
+            End::BadInput { .. } => 1,
+            End::Usage => 2,
+            End::BadSettings { .. } => 3,
+            End::ReadFault => 4,
+            End::WriteFault => 5,
+            End::NoMemory => 7,
+            End::InputTooLong => 10,
+        }
+    }
+
+    /// The end that a fault of the input is.
+    pub(crate) fn of_fault(fault: WireFault) -> Self
+        ensures { result ≡ fault_end fault }
+    {
+        match fault {
+            WireFault::BadRequest { at } => End::BadInput {
+                at,
+                refusal: Refusal::Bad,
+            },
+            WireFault::TooLarge { at, len } => End::BadInput {
+                at,
+                refusal: Refusal::TooLarge { len },
+            },
+            WireFault::Unsupported { at } => End::BadInput {
+                at,
+                refusal: Refusal::Unsupported,
+            },
+            WireFault::ReadFault => End::ReadFault,
+            WireFault::InputTooLong => End::InputTooLong,
+            WireFault::NoMemory => End::NoMemory,
+        }
+    }
+
+    /// Writes the last text of this end, as far as the output takes it. Where there is no memory for the text nothing is
+    /// written, and the run ends for that.
+    pub(crate) fn report<K: Sink>(self, alloc: Global, output: &mut K) -> Self
+        ensures reports { Reports (K.sink_state output.old) (K.sink_state output.new) self result }
+        ensures count { (K.sink_state output.old).faults ≤ (K.sink_state output.new).faults }
+    {
+        match &self {
+            End::BadInput { at, refusal } => {
+                let Ok(reply) = fault_reply(alloc, *at, *refusal) else {
+                    return End::NoMemory;
+                };
+                let _ = write_reply(output, &reply);
+            }
+            End::BadSettings { number, key } => {
+                let Ok(line) = settings_line(alloc, *number, key.as_str()) else {
+                    return End::NoMemory;
+                };
+                let _ = write_all(output, line.as_bytes());
+            }
+            End::Usage => {
+                let _ = write_all(output, b"usage\n");
+            }
+            End::InputTooLong => {
+                let _ = write_all(output, b"input too long\n");
+            }
+            End::Done | End::ReadFault | End::WriteFault | End::NoMemory => {}
+        }
+        self
+    }
+}
+
+fn settings_line(alloc: Global, number: u8, key: &str) -> Result<String, AllocError>
+    ensures { IfOk result (λ line. string_bytes line ≡ settings_line number key.now) }
+{
+    format!(in alloc; "settings {number} {key}\n")
+}
