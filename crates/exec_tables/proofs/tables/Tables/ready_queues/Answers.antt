@@ -1,0 +1,18 @@
+use Rattle.std.proofs.Common.{ap, ◌∙◌, rules, tests, eqb}
+use Rattle.std.specs.Cmp.{nat_cmp_total}
+use Rattle.std.specs.FinMap.{nat_cmp-IsAntisymmetric}
+use Rattle.std.specs.Option.{option_map}
+use Rattle.std.specs.Map.Iter.{deref_pair}
+use Rattle.std.proofs.lemmas.Iterator.{YieldsList-from_map_by}
+use Rattle.std.proofs.lemmas.Iterator.Consumers.{YieldsList-at}
+use Rattle.exec_tables.specs.Next.{by_ready_queue}
+use Rattle.exec_tables.proofs.NameLemmas.{if_ok, sorted_places}
+use Rattle.exec_tables.proofs.NextLemmas.{rows_road, sorted_rows}
+use Rattle.exec_tables.proofs.RowLemmas.{number_ties}
+use Rattle.exec_tables.proofs.tables.Tables.ready_queues.Goals as goal
+
+pub returns : goal.returns
+returns c =
+    let place = by_ready_queue in
+    if_ok c.sorted_names.result (λ names h. sorted_places h.0 names.items (sorted_rows nat_cmp_total eqb number_ties nat_cmp-IsAntisymmetric place (λ y. y.now) c.iter.result c.args.self.now.world.jobs c.iter.ensures.apart (c.iter.ensures.rows ∙ ap (λ s. s.world.jobs) c.self.view_is) h.0 h.1
+    (YieldsList-from_map_by _ (option_map (λ y. y.now)) (λ e. place e.0 e.1) (YieldsList-at c.map.ensures.source (rows_road deref_pair c.iter.result)) c.map.ensures.closure (λ x r q k. search (rules, tests)))) h.2) c.sorted_names.ensures

@@ -1,0 +1,10 @@
+pub mod Apply
+pub mod Jobs
+pub mod Legal
+pub mod Names
+pub mod Next
+pub mod Room
+pub mod Runs
+pub mod Store
+pub mod Stored
+pub mod Table
