@@ -1,4 +1,3 @@
-pub mod Gated
 pub mod HalfDone
 pub mod Histories
 pub mod Images

@@ -43,10 +43,6 @@ module _ (P : ℕ → Two (List ℕ) → Type 0) where
   begin number None here = tt
   begin number (Some old) here = rising_here number old here
 
-  -- a call that changes no file
-  pub on_kept : (from n : ℕ) (before mid new : Option History) → new ≡ mid → LeavesRising P from n before mid → LeavesRising P from n before new
-  on_kept from n before mid new same so_far = subst (LeavesRising P from n before) (sym same) so_far
-
   -- one moment more
   pub rising_on : (from n to : ℕ) (old mid new : History) → n ≤ to → LeavesRising P from n (Some old) (Some mid) → new.earlier ≡ moments_of mid → Leaves (P to) new.now → LeavesRising P from to (Some old) (Some new)
   rising_on from n to old mid new up so_far earlier here = (
@@ -154,19 +150,3 @@ module _ (Q : ℕ → List ℕ → Type 0) (file from n to : ℕ) (before mid ne
   pub on_sync : GoesOn file Syncs mid new → IfSome mid (λ then. Q to (nth file then.now).reads) → Leads
   on_sync call here = on_step (λ number image. Q number (nth file image)) file Syncs from n to before mid new up so_far (inr call)
       (some_weaker mid _ _ (λ then reads files change. leaves_nth file (Q to) files (synced_has (nth file then.now).reads (nth file files) (Q to) change.this reads)) here)
-
--- the same with one P, on histories that are known
-module _ (P : Two (List ℕ) → Type 0) where
-  pub kept_here : (old : History) → Leaves P old.now → LeavesOnly P (Some old) (Some old)
-  kept_here old here = rising_here (λ _. P) 0 old here
-
-  pub kept_on : (old mid new : History) → LeavesOnly P (Some old) (Some mid) → new.earlier ≡ moments_of mid → Leaves P new.now → LeavesOnly P (Some old) (Some new)
-  kept_on old mid new so_far earlier here = rising_on (λ _. P) 0 0 0 old mid new (omega arith) so_far earlier here
-
-  pub leaves_only : (before new : Option History) (old now : History) → before ≡ Some old → new ≡ Some now → LeavesOnly P (Some old) (Some now) → LeavesOnly P before new
-  leaves_only before new old now is_old is_new keeps =
-      subst (λ b. LeavesOnly P b new) (sym is_old) (subst (λ h. LeavesOnly P (Some old) h) (sym is_new) keeps)
-
-  pub failed_sync : (file : ℕ) (before between new : Option History) (old mid : History) → file ≤ 1 → before ≡ Some old → between ≡ Some mid → LeavesOnly P (Some old) (Some mid)
-      → MayGoOn file HalfSyncs between new → LeavesOnly P before new
-  failed_sync file before between new old mid small is_old is_mid so_far call = on_failed_sync (λ _. P) file 0 0 before between new small (leaves_only before between old mid is_old is_mid so_far) call

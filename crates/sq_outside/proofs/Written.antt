@@ -2,8 +2,7 @@
 use Rattle.std.proofs.Common.{◌≡◌, inl, inr, ℕ, ◌+◌, ◌<◌, ◌≤◌, List, [], ◌∷◌, ◌++◌, length, get_or, take, drop, refl, subst, sym, ◌∙◌, ap, arith, append_assoc, length-append, length-drop}
 use Rattle.std.proofs.lemmas.List.{ext_get_or, take-append-drop, length-take-le, get_or-take, get_or-drop, get_or-append_right, get_or_append_left}
 use Rattle.std.proofs.Math.Seq.{take-append_seam, drop-append-add}
-use Rattle.sq_outside.specs.File.{Unsynced, IsImage, IsOutside, settled, in_doubt, overwritten}
-use Rattle.sq_outside.proofs.Images.{same_prefix}
+use Rattle.sq_outside.specs.File.{Unsynced, IsImage, settled, in_doubt, overwritten}
 
 pub overwritten_at : (prefix rest piece : List ℕ) → overwritten (prefix ++ rest) (length prefix) piece ≡ prefix ++ (piece ++ drop (length piece) rest)
 overwritten_at prefix rest piece =
@@ -84,8 +83,3 @@ pub gate_torn : (prefix more image : List ℕ) (closed : ℕ) → Changed prefix
 gate_torn prefix more image closed is =
     let byte = one_byte is.bytes (is.long (omega arith)) in
     (byte.0, is.text ∙ ap (λ (l : List ℕ). prefix ++ (l ++ more)) byte.1)
-
--- After any writes since the last sync a prefix stays that none of them was to change.
-pub prefix_stays : (n : ℕ) (file : Unsynced) (image : List ℕ) → n ≤ file.shortest → n ≤ length file.synced → ((place : ℕ) → place < n → IsOutside file.written place) → IsImage file image → take n image ≡ take n file.synced
-prefix_stays n file image kept long outside is =
-    same_prefix n image file.synced (omega (arith, is.no_shorter)) long (λ place below. is.stays place (omega arith) (outside place below))

@@ -2,7 +2,6 @@ pub mod Disk
 pub mod Fault
 pub mod File
 pub mod FileDisk
-pub mod Gated
 pub mod Memory
 pub mod MemoryDisk
 pub mod MemoryDiskView

@@ -8,7 +8,6 @@
 mod buffer;
 mod clock;
 mod disk;
-mod disk_client;
 mod failed;
 mod host;
 mod memory;

@@ -1,0 +1,15 @@
+pub mod Adding
+pub mod Closing
+pub mod Finishing
+pub mod Headings
+pub mod KeptLaws
+pub mod Making
+pub mod Opening
+pub mod NextRecords
+pub mod Others
+pub mod Putting
+pub mod RecordReads
+pub mod Repairing
+pub mod Replaced
+pub mod Standing
+pub mod Windows

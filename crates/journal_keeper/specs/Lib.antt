@@ -1,0 +1,10 @@
+pub mod Answers
+pub mod Files
+pub mod Kept
+pub mod Making
+pub mod Reading
+pub mod Records
+pub mod Stages
+pub mod Stands
+pub mod Texts
+pub mod Writes
