@@ -7,7 +7,7 @@ use Rattle.http_wire.specs.Stream.{IsRequest, IsEnd, IsRefused}
 use Rattle.http_wire.specs.declared.head.Refusal.{Refusal}
 use Rattle.http_wire.specs.declared.request.Request.{Request}
 use Rattle.queue_config.specs.declared.config.Config.{Config}
-use Rattle.queue_config.specs.declared.fault.SettingsFault.TheVariants as fault
+use Rattle.toml_members.specs.declared.fault.SettingsFault.TheVariants as fault
 use Rattle.queue_config.specs.Settings.{config_of}
 use Rattle.queue_cli.specs.Command.{command_of}
 use Rattle.queue_cli.specs.declared.command.Command.{Command}

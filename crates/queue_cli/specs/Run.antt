@@ -6,7 +6,7 @@ use Rattle.sq_outside.specs.Fault.{Rose}
 use Rattle.http_wire.specs.declared.request.Request.{Request}
 use Rattle.http_wire.specs.Stream.{IsEnd}
 use Rattle.queue_config.specs.declared.config.Config.{Config}
-use Rattle.queue_config.specs.declared.fault.SettingsFault.TheVariants as fault
+use Rattle.toml_members.specs.declared.fault.SettingsFault.TheVariants as fault
 use Rattle.queue_config.specs.Settings.{config_of}
 use Rattle.queue_http.specs.Service.{service}
 use Rattle.queue_cli.specs.Command.{command_of}

@@ -5,7 +5,7 @@ use Rattle.sq_outside.specs.Fault.{Rose}
 use Rattle.sq_outside.specs.Streams.{SourceState}
 use Rattle.queue_config.specs.declared.config.Config.{Config}
 use Rattle.queue_config.specs.Settings.{config_of}
-use Rattle.queue_config.specs.declared.fault.SettingsFault.TheVariants as fault
+use Rattle.toml_members.specs.declared.fault.SettingsFault.TheVariants as fault
 use Rattle.queue_cli.specs.declared.end.End.{End}
 use Rattle.queue_cli.specs.declared.end.End.TheVariants.{BadSettings, ReadFault, NoMemory}
 

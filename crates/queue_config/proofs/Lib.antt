@@ -1,7 +1,9 @@
-pub mod DocumentLemmas
-pub mod ElementLemmas
-pub mod ClassLemmas
-pub mod KeyLemmas
-pub mod NameLemmas
-pub mod ViewLemmas
-pub mod PlaceLemmas
+pub mod ArgLemmas
+pub mod ClashLemmas
+pub mod ErrorLemmas
+pub mod IndexLemmas
+pub mod KindLemmas
+pub mod LimitLemmas
+pub mod RootLemmas
+pub mod RuleLemmas
+pub mod WholeLemmas

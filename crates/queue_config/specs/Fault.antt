@@ -1,29 +1,13 @@
--- What can be wrong with settings, and the key that it is about.
-use Rattle.std.specs.Prelude.{ℕ, List, Result, Err}
-use Rattle.queue_config.specs.declared.fault.SettingsFault.{SettingsFault}
-use Rattle.queue_config.specs.declared.fault.SettingsFault.TheVariants.{Refused}
-
--- a value, or the first thing that is wrong
-abbrev pub Judged : Type 0 → Type 0
-Judged X = Result X SettingsFault
-
-abbrev pub no_document : {X : Type 0} → List ℕ → Judged X
-no_document key = Err (Refused 1 key)
-
-abbrev pub unknown : {X : Type 0} → List ℕ → Judged X
-unknown key = Err (Refused 2 key)
-
-abbrev pub missing : {X : Type 0} → List ℕ → Judged X
-missing key = Err (Refused 3 key)
-
-abbrev pub wrong_kind : {X : Type 0} → List ℕ → Judged X
-wrong_kind key = Err (Refused 4 key)
-
-abbrev pub not_allowed : {X : Type 0} → List ℕ → Judged X
-not_allowed key = Err (Refused 5 key)
-
-abbrev pub repeated : {X : Type 0} → List ℕ → Judged X
-repeated key = Err (Refused 6 key)
+-- What is judged once all tables are read, beside the faults of single members.
+use Rattle.std.specs.Prelude.{ℕ, List, codes, Option, Some, None, Ok, Err}
+use Rattle.toml_members.specs.Fault.{Judged}
+use Rattle.toml_members.specs.Key.{key_in, element_of}
+use Rattle.toml_members.specs.declared.fault.SettingsFault.TheVariants.{Refused}
 
 abbrev pub too_long : {X : Type 0} → List ℕ → Judged X
 too_long key = Err (Refused 10 key)
+
+-- nothing, where no element of an array is refused
+abbrev pub unless_at : ℕ → List ℕ → List ℕ → Option ℕ → Judged (Unit {0})
+unless_at number array key None = Ok tt
+unless_at number array key (Some i) = Err (Refused number (key_in (element_of array i) key))

@@ -1,9 +1,10 @@
+pub mod Errors
 pub mod Fault
-pub mod Key
-pub mod KeyText
-pub mod Kind
-pub mod Names
-pub mod Places
-pub mod Plain
+pub mod Index
+pub mod Limits
+pub mod ListText
+pub mod Named
 pub mod Ranges
+pub mod Retry
 pub mod Settings
+pub mod Wrong

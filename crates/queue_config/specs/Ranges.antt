@@ -1,11 +1,13 @@
 -- What holds of each accepted value.
-use Rattle.std.specs.Prelude.{◌≡◌, ◌≢◌, ◌≤◌, ℕ, zero, suc, List, [], ◌∷◌, ◌++◌, length, map, sum_by, find, filter_map, codes, Option, Some, None, option_and_then, slice_get, Ok, All, AllPairs}
-use Rattle.std.specs.Option.{ForSome, option_map_or}
-use Rattle.std.specs.Str.{bytes_eq}
-use Rattle.serde_json.specs.Data.{Data, Items, no_items, item, boolean, number, string, array}
+use Rattle.std.specs.Prelude.{◌≡◌, ◌≢◌, ◌≤◌, ℕ, Bool, false, List, length, map, sum_by, Ok, All, AllPairs}
+use Rattle.std.specs.Option.{ForSome, IsSome}
+use Rattle.serde_json.specs.Data.{Data, boolean, number, string, array}
 use Rattle.serde_json.specs.Find.{of_integer}
+use Rattle.serde_json.specs.View.{items_of}
 use Rattle.serde_json.specs.Written.{compact_text}
 use Rattle.cron_lines.specs.Text.{schedule_of}
+use Rattle.job_states.specs.declared.command.Arg.{Arg}
+use Rattle.job_states.specs.declared.command.Arg.TheVariants as arg
 use Rattle.job_states.specs.Length.{IsName}
 use Rattle.queue_selector.specs.Items.{IsQueueList}
 use Rattle.queue_config.specs.declared.config.Class.{Class}
@@ -24,10 +26,15 @@ use Rattle.queue_config.specs.declared.config.Task.{Task}
 use Rattle.queue_config.specs.declared.config.TaskArg.{TaskArg}
 use Rattle.queue_config.specs.declared.config.TaskArg.TheVariants.{Text, Whole, Truth}
 use Rattle.queue_config.specs.declared.config.Worker.{Worker}
-use Rattle.queue_config.specs.Names.{names_of, find_class}
+use Rattle.queue_config.specs.Errors.{standard_error, IsKindOf, is_own_ancestor}
+use Rattle.queue_config.specs.Limits.{find_class, limit_in, refuses_key}
+use Rattle.queue_config.specs.ListText.{list_text}
+use Rattle.queue_config.specs.Wrong.{clash}
 
 abbrev pub Between : ℕ → ℕ → ℕ → Type 0
 Between least most n = (least ≤ n) × (n ≤ most)
+
+-- ---- classes
 
 -- a text of 1 to 128 bytes, or the number of one of the first 16 arguments
 abbrev pub IsKeyFrom : KeyFrom → Type 0
@@ -44,20 +51,14 @@ abbrev pub IsRuleAct : RuleAct → Type 0
 IsRuleAct Discard = Unit {0}
 IsRuleAct (Retry wait attempts) = ForSome wait (λ n. n ≤ 31_536_000) × ForSome attempts (Between 1 65_535)
 
--- names with a comma and a space between two
-abbrev pub joined : List (List ℕ) → List ℕ
-joined [] = []
-joined (name ∷ []) = name
-joined (name ∷ names) = name ++ (codes ", " ++ joined names)
-
--- the text of a list of errors, by which retries are counted, as `[A, B]`
-abbrev pub list_text : List (List ℕ) → List ℕ
-list_text names = codes "[" ++ (joined names ++ codes "]")
+-- 1 to 8 names, and their text is short
+pub record IsErrorList (names : List (List ℕ)) : Type 0 where
+  pub count : Between 1 8 (length names)
+  pub each : All IsName names
+  pub text : length (list_text names) ≤ 1024
 
 pub record IsRule (rule : Rule) : Type 0 where
-  pub count : Between 1 8 (length rule.list)
-  pub list : All IsName rule.list
-  pub text : length (list_text rule.list) ≤ 1024
+  pub list : IsErrorList rule.list
   pub act : IsRuleAct rule.act
 
 pub record IsClass (class : Class) : Type 0 where
@@ -66,8 +67,7 @@ pub record IsClass (class : Class) : Type 0 where
   pub rule_count : length class.rules ≤ 16
   pub rules : All IsRule class.rules
 
-abbrev pub standard_error : List ℕ
-standard_error = codes "StandardError"
+-- ---- the other tables
 
 -- `StandardError` is not declared
 pub record IsErrorKeys (error : ErrorKeys) : Type 0 where
@@ -94,17 +94,24 @@ arg_data (Text text) = string text
 arg_data (Whole n) = number (of_integer n)
 arg_data (Truth b) = boolean b
 
-abbrev pub args_items : List TaskArg → Items
-args_items [] = no_items
-args_items (arg ∷ args) = item (arg_data arg) (args_items args)
+-- all arguments as a JSON array
+abbrev pub args_text : List TaskArg → List ℕ
+args_text args = compact_text (array (items_of (map arg_data args)))
 
--- its schedule is the one that its text spells, and its arguments' JSON is short
-pub record IsTask (task : Task) : Type 0 where
+-- the argument of a job
+abbrev pub arg_of : TaskArg → Arg
+arg_of (Text text) = arg.Text text
+arg_of (Whole n) = arg.Whole n
+arg_of (Truth b) = arg.Other
+
+-- Its schedule is the one that its text spells, its arguments' JSON is short, and its class, if it is among these, takes them.
+pub record IsTask (classes : List Class) (task : Task) : Type 0 where
   pub key : IsName task.key
   pub class : IsName task.class
   pub schedule : schedule_of task.schedule_text ≡ Ok task.schedule
   pub queue : IsName task.queue
-  pub args : length (compact_text (array (args_items task.args))) ≤ 4096
+  pub text : length (args_text task.args) ≤ 4096
+  pub args : refuses_key (limit_in (find_class task.class classes)) (map arg_of task.args) ≡ false
 
 pub record IsWorker (worker : Worker) : Type 0 where
   pub queues : IsQueueList worker.queues
@@ -112,74 +119,36 @@ pub record IsWorker (worker : Worker) : Type 0 where
   pub claim : Between 1 100 worker.claim
   pub polling_ms : Between 1 3_600_000 worker.polling_ms
 
--- ---- the lists
-
--- two limits of one group have one `to` and one `duration`
-abbrev pub AreAlike : Limit → Limit → Type 0
-AreAlike a b = a.group ≡ b.group → (a.to ≡ b.to) × (a.duration ≡ b.duration)
-
--- no two classes have one name
-pub record AreClasses (classes : List Class) : Type 0 where
-  pub count : length classes ≤ 1024
-  pub each : All IsClass classes
-  pub names : AllPairs (λ a b. a ≢ b) (names_of classes)
-  pub groups : AllPairs AreAlike (filter_map (λ class. class.limit) classes)
-
--- what an error is a kind of: `StandardError`, unless it is declared with another parent
-abbrev pub parent_of : List ErrorKeys → List ℕ → List ℕ
-parent_of errors name = option_map_or (λ error. error.parent) (find (λ error. bytes_eq error.name name) errors) standard_error
-
--- the error so many parents above
-abbrev pub ancestor : List ErrorKeys → ℕ → List ℕ → List ℕ
-ancestor errors zero name = name
-ancestor errors (suc n) name = ancestor errors n (parent_of errors name)
-
--- no two errors have one name, and the parents of each end at `StandardError`, so that none comes round to it
-pub record AreErrors (errors : List ErrorKeys) : Type 0 where
-  pub count : length errors ≤ 1024
-  pub each : All IsErrorKeys errors
-  pub names : AllPairs (λ a b. a ≢ b) (map (λ error. error.name) errors)
-  pub rooted : All (λ error. (n : ℕ) × (ancestor errors n error.name ≡ standard_error)) errors
-
--- no two tasks have one key
-pub record AreTasks (tasks : List Task) : Type 0 where
-  pub count : length tasks ≤ 1024
-  pub each : All IsTask tasks
-  pub keys : AllPairs (λ a b. a ≢ b) (map (λ task. task.key) tasks)
-
--- an argument that can be a job's concurrency key: a text of 1 to 128 bytes, or a whole number
-abbrev pub IsKeyArg : TaskArg → Type 0
-IsKeyArg (Text text) = IsName text
-IsKeyArg (Whole n) = Unit {0}
-IsKeyArg (Truth b) = ⊥
-
--- the number of the argument from which a limit takes its key
-abbrev pub key_argument : KeyFrom → Option ℕ
-key_argument (Fixed text) = None
-key_argument (Argument n) = Some n
-
--- these arguments give a key to a class that asks for one, unless they are fewer
-abbrev pub GiveKey : Option Limit → List TaskArg → Type 0
-GiveKey None args = Unit {0}
-GiveKey (Some limit) args = ForSome (option_and_then (slice_get args) (key_argument limit.key)) IsKeyArg
-
--- the class of a task is declared, and takes the task's arguments
-abbrev pub SuitsClass : Option Class → Task → Type 0
-SuitsClass None task = ⊥
-SuitsClass (Some class) task = GiveKey class.limit task.args
+abbrev pub threads_of : List Worker → ℕ
+threads_of workers = sum_by (λ worker. worker.threads) workers
 
 pub record AreWorkers (workers : List Worker) : Type 0 where
-  pub count : 1 ≤ length workers
   pub each : All IsWorker workers
-  pub threads : sum_by (λ worker. worker.threads) workers ≤ 32
+  pub threads : threads_of workers ≤ 32
 
--- what holds of each accepted value
-pub record IsConfig (config : Config) : Type 0 where
-  pub classes : AreClasses config.classes
+-- what holds of each value by itself
+pub record HasRanges (config : Config) : Type 0 where
+  pub class_count : length config.classes ≤ 1024
+  pub classes : All IsClass config.classes
   pub dispatcher : IsDispatcher config.dispatcher
-  pub errors : AreErrors config.errors
+  pub error_count : length config.errors ≤ 1024
+  pub errors : All IsErrorKeys config.errors
   pub jobs : IsJobs config.jobs
   pub processes : IsProcesses config.processes
-  pub tasks : AreTasks config.tasks
-  pub task_classes : All (λ task. SuitsClass (find_class task.class config.classes) task) config.tasks
+  pub task_count : length config.tasks ≤ 1024
+  pub tasks : All (IsTask config.classes) config.tasks
+  pub worker_count : 1 ≤ length config.workers
   pub workers : AreWorkers config.workers
+
+-- ---- the whole
+
+-- What holds of all accepted settings. The parents of each error don't come round to it, and end at `StandardError`.
+pub record IsConfig (config : Config) : Type 0 where
+  pub ranges : HasRanges config
+  pub class_names : AllPairs (λ a b. a.name ≢ b.name) config.classes
+  pub error_names : AllPairs (λ a b. a.name ≢ b.name) config.errors
+  pub task_keys : AllPairs (λ a b. a.key ≢ b.key) config.tasks
+  pub task_classes : All (λ task. IsSome (find_class task.class config.classes)) config.tasks
+  pub rounds : All (λ error. is_own_ancestor config.errors error ≡ false) config.errors
+  pub parents : All (λ error. IsKindOf config.errors error.name standard_error) config.errors
+  pub groups : AllPairs (λ a b. clash a b ≡ false) config.classes

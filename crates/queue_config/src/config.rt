@@ -1,4 +1,4 @@
-use crate::Classes;
+use crate::{ErrorList, HasName, Index};
 use cron_lines::Schedule;
 use job_states::{List, Name, Text};
 
@@ -6,14 +6,14 @@ use job_states::{List, Name, Text};
 #[derive(Drop)]
 pub struct Config {
     /// At most 1024, each with a name of its own.
-    pub classes: Classes,
+    pub classes: Index<Class>,
     pub dispatcher: DispatcherKeys,
-    /// At most 1024.
-    pub errors: List<ErrorKeys>,
+    /// At most 1024, each with a name of its own, whose parents end at `StandardError`.
+    pub errors: Index<ErrorKeys>,
     pub jobs: JobsKeys,
     pub processes: ProcessKeys,
     /// At most 1024, each with a key of its own.
-    pub tasks: List<Task>,
+    pub tasks: Index<Task>,
     /// At least one, and at most 32 threads in all.
     pub workers: List<Worker>,
 }
@@ -25,6 +25,14 @@ pub struct Class {
     pub limit: Option<Limit>,
     /// At most 16. Of those that fit an error the last one counts.
     pub rules: List<Rule>,
+}
+
+impl HasName for Class {
+    ghost name_of = { λ class. class.name };
+
+    fn name(&self) -> &Name {
+        &self.name
+    }
 }
 
 /// At most `to` jobs of one key of the group at a time.
@@ -53,7 +61,7 @@ pub enum KeyFrom {
 #[derive(Drop)]
 pub struct Rule {
     /// 1 to 8 errors.
-    pub list: List<Name>,
+    pub list: ErrorList,
     pub act: RuleAct,
 }
 
@@ -74,6 +82,14 @@ pub enum RuleAct {
 pub struct ErrorKeys {
     pub name: Name,
     pub parent: Name,
+}
+
+impl HasName for ErrorKeys {
+    ghost name_of = { λ error. error.name };
+
+    fn name(&self) -> &Name {
+        &self.name
+    }
 }
 
 /// How scheduled jobs are dispatched.
@@ -118,6 +134,14 @@ pub struct Task {
     pub queue: Name,
     pub priority: i32,
     pub args: List<TaskArg>,
+}
+
+impl HasName for Task {
+    ghost name_of = { λ task. task.key };
+
+    fn name(&self) -> &Name {
+        &self.key
+    }
 }
 
 /// An argument of a task's jobs.
