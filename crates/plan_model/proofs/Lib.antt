@@ -1,0 +1,12 @@
+mod Claims
+mod Commands
+mod DraftLemmas
+mod Endings
+mod Enqueuing
+mod LegalCases
+mod LegalSteps
+mod MapLemmas
+mod OrderLemmas
+mod Places
+mod PlanLemmas
+mod Unblocking

@@ -1,0 +1,16 @@
+pub mod Begins
+pub mod Books
+pub mod Cases
+pub mod Counts
+pub mod Drafts
+pub mod Examples
+pub mod GoodScene
+pub mod JobCases
+pub mod JobCommands
+pub mod Orders
+pub mod Planned
+pub mod Plans
+pub mod Refusals
+pub mod Scenes
+pub mod UpkeepCases
+pub mod UpkeepCommands
