@@ -102,20 +102,42 @@ fn expire(alloc: Global) -> Result<Transition, Fail> {
 
 fn step(alloc: Global, at: usize) -> Result<Transition, Fail> {
     match at {
+        0..=6 => new_step(alloc, at),
+        16 | 20 => fail(alloc, if at == 16 { 2 } else { 6 }),
+        24..=27 => named_step(alloc, at),
+        _ => Ok(plain_step(at)),
+    }
+}
+
+fn new_step(alloc: Global, at: usize) -> Result<Transition, Fail> {
+    match at {
         0 => register(alloc, 1),
-        1 => keyed(alloc, 1, "A/k", false, Put::Ready(Some(1))),
-        2 => keyed(alloc, 2, "A/k", false, Put::Blocked(151)),
         3 => job(alloc, 3, -1, None, Put::Scheduled(110)),
-        4 => keyed(alloc, 4, "A/k", false, Put::Scheduled(110)),
-        5 => keyed(alloc, 5, "A/d", true, Put::Scheduled(110)),
-        6 => keyed(alloc, 6, "A/d", true, Put::Ready(Some(2))),
-        16 => fail(alloc, 2),
-        20 => fail(alloc, 6),
+        _ => keyed_step(alloc, at),
+    }
+}
+
+// The key, whether its class discards, and the place of a new job with a key.
+const KEYED: [(&str, bool, Put); 5] = [
+    ("A/k", false, Put::Ready(Some(1))),
+    ("A/k", false, Put::Blocked(151)),
+    ("A/k", false, Put::Scheduled(110)),
+    ("A/d", true, Put::Scheduled(110)),
+    ("A/d", true, Put::Ready(Some(2))),
+];
+
+fn keyed_step(alloc: Global, at: usize) -> Result<Transition, Fail> {
+    let place = at.saturating_sub(if at < 3 { 1 } else { 2 });
+    let (key, discard, put) = *KEYED.get(place).ok_or("a new job")?;
+    keyed(alloc, at as JobId, key, discard, put)
+}
+
+fn named_step(alloc: Global, at: usize) -> Result<Transition, Fail> {
+    match at {
         24 => pause(alloc),
         25 => resume(alloc),
         26 => run(alloc, 190, Some(3)),
-        27 => expire(alloc),
-        _ => Ok(plain_step(at)),
+        _ => expire(alloc),
     }
 }
 
@@ -153,28 +175,34 @@ fn accepts(
     Ok(tables.legal(&tx) & tables.try_apply(tx))
 }
 
-// The tables after the first steps; none where one of them isn't legal.
-fn tables_after(alloc: Global, count: usize) -> Result<Option<Tables>, Fail> {
-    let mut tables = Tables::new(alloc);
+// Are so many steps legal, one after the other?
+fn accepts_first(alloc: Global, tables: &mut Tables, count: usize) -> Result<bool, Fail> {
+    let mut legal = true;
     for (at, moment) in MOMENTS.iter().take(count).enumerate() {
-        if !accepts(alloc, &mut tables, *moment, step(alloc, at)?)? {
-            return Ok(None);
-        }
+        legal &= accepts(alloc, tables, *moment, step(alloc, at)?)?;
     }
-    Ok(Some(tables))
+    Ok(legal)
 }
 
-// Once it was taken in, each step is refused, but for a heartbeat.
+// Is the step legal after those before it, and refused once it was taken in?
+fn accepts_once(alloc: Global, tables: &mut Tables, at: usize) -> Result<bool, Fail> {
+    let moment = *MOMENTS.get(at).ok_or("a step")?;
+    Ok(accepts_first(alloc, tables, at + 1)? && !accepts(alloc, tables, moment, step(alloc, at)?)?)
+}
+
+fn is_legal_once(alloc: Global, at: usize) -> Result<bool, Fail> {
+    let mut tables = Tables::new(alloc);
+    accepts_once(alloc, &mut tables, at)
+}
+
+// A heartbeat is legal again and again, and refused of a process that isn't there.
 #[test]
 fn each_transition_is_legal_once(rt: HostRuntime) -> Result<(), Fail> {
-    let alloc = rt.alloc();
-    for (at, moment) in MOMENTS.iter().enumerate() {
-        let mut tables = tables_after(alloc, at + 1)?.ok_or("legal")?;
-        let again = accepts(alloc, &mut tables, *moment, step(alloc, at)?)?;
-        assert_eq!(rt; again, at == 28);
+    for at in 0..MOMENTS.len() {
+        assert_eq!(rt; is_legal_once(rt.alloc(), at)?, at != 28);
     }
-    let mut tables = Tables::new(alloc);
-    assert!(rt; !accepts(alloc, &mut tables, 201, plain_step(28))?);
+    let mut tables = Tables::new(rt.alloc());
+    assert!(rt; !accepts(rt.alloc(), &mut tables, 201, plain_step(28))?);
     Ok(())
 }
 
@@ -204,15 +232,17 @@ fn names_found(tables: &Tables, key: &Text) -> bool {
             .is_some_and(|next| next.as_str() == "A/d")
 }
 
+fn leaves_all(alloc: Global, tables: &mut Tables) -> Result<bool, Fail> {
+    let (key, queue) = (Text::read(alloc, "A/k")?, name(alloc, "q")?);
+    let legal = accepts_first(alloc, tables, MOMENTS.len())?;
+    let lists = (tables.paused()?.len(), tables.ready_queues()?.len());
+    Ok(legal && lists == (0, 1) && found(tables, &key, &queue) && names_found(tables, &key))
+}
+
 #[test]
 fn they_leave_what_was_worked_out_by_hand(rt: HostRuntime) -> Result<(), Fail> {
-    let alloc = rt.alloc();
-    let tables = tables_after(alloc, MOMENTS.len())?.ok_or("legal")?;
-    let key = Text::read(alloc, "A/k")?;
-    assert!(rt; found(&tables, &key, &name(alloc, "q")?));
-    assert!(rt; names_found(&tables, &key));
-    assert_eq!(rt; tables.paused()?.len(), 0);
-    assert_eq!(rt; tables.ready_queues()?.len(), 1);
+    let mut tables = Tables::new(rt.alloc());
+    assert!(rt; leaves_all(rt.alloc(), &mut tables)?);
     Ok(())
 }
 
@@ -231,27 +261,47 @@ fn advance(alloc: Global, tables: &mut Tables, id: JobId) -> Result<bool, Fail> 
     Ok(legal)
 }
 
-#[test]
-fn look_ups_follow_a_long_run(rt: HostRuntime) -> Result<(), Fail> {
-    let alloc = rt.alloc();
-    let mut tables = Tables::new(alloc);
-    assert!(rt; accepts(alloc, &mut tables, 100, register(alloc, 1)?)?);
-    for id in 1..=120 {
-        assert!(rt; advance(alloc, &mut tables, id)?);
-    }
-    assert_eq!(rt; (tables.kept(), tables.claims(1)), (120, 20));
+// Those that aren't claimed are ready, the even ones first.
+fn are_ready_in_order(tables: &Tables) -> bool {
     let mut past = None;
-    for priority in [-1, 1] {
-        for id in 1..=120 {
-            if id % 3 != 0 && (id % 2 == 0) == (priority == -1) {
-                assert!(rt; tables.ready_any_after(past) == Some((priority, id)));
-                past = Some((priority, id));
+    for half in 0..120 {
+        let (priority, id) = if half < 60 {
+            (-1, 2 * half + 2)
+        } else {
+            (1, 2 * half - 119)
+        };
+        if id % 3 != 0 {
+            if tables.ready_any_after(past) != Some((priority, id)) {
+                return false;
             }
+            past = Some((priority, id));
         }
     }
-    assert!(rt; tables.ready_any_after(past).is_none());
-    for id in (3..120).step_by(6) {
-        assert!(rt; tables.claim_after(1, id - 1) == Some(id));
+    tables.ready_any_after(past).is_none()
+}
+
+// Each sixth from the third on is claimed still.
+fn are_claimed_in_order(tables: &Tables) -> bool {
+    for at in 0..20 {
+        if tables.claim_after(1, 6 * at) != Some(6 * at + 3) {
+            return false;
+        }
     }
+    true
+}
+
+fn follows(alloc: Global, tables: &mut Tables) -> Result<bool, Fail> {
+    let mut legal = accepts(alloc, tables, 100, register(alloc, 1)?)?;
+    for id in 1..=120 {
+        legal &= advance(alloc, tables, id)?;
+    }
+    Ok(legal && are_ready_in_order(tables) && are_claimed_in_order(tables))
+}
+
+#[test]
+fn look_ups_follow_a_long_run(rt: HostRuntime) -> Result<(), Fail> {
+    let mut tables = Tables::new(rt.alloc());
+    assert!(rt; follows(rt.alloc(), &mut tables)?);
+    assert_eq!(rt; (tables.kept(), tables.claims(1)), (120, 20));
     Ok(())
 }
