@@ -21,8 +21,7 @@ use Rattle.queue_model.specs.World.{is_claimed_by, is_holder, is_key, is_exactly
 use Rattle.queue_model.specs.declared.Job.{Job}
 use Rattle.queue_model.proofs.Frames.{count-set, one}
 use Rattle.queue_model.proofs.Maps.{get-set, get-insert}
-use Rattle.exec_tables.specs.Jobs.{AreKept, claimant_at, claimant_of, claims_in, count_in, holders_in, kept_count, lowered, newer, raised}
-use Rattle.exec_tables.specs.Legal.{bit}
+use Rattle.exec_tables.specs.Jobs.{bit, AreKept, claimant_at, claimant_of, claims_in, count_in, holders_in, kept_count, lowered, newer, raised}
 use Rattle.exec_tables.proofs.RowLemmas.{number_length, number_ties, subst2, turned}
 
 abbrev Jobs : Type 0

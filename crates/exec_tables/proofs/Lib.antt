@@ -1,9 +1,7 @@
 pub mod Claims
-pub mod Following
 pub mod Judging
 pub mod NameLemmas
 pub mod NextLemmas
 pub mod RowLemmas
 pub mod RunLemmas
-pub mod Trail
 pub mod Writing

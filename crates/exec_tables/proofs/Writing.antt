@@ -4,8 +4,6 @@ use Rattle.std.proofs.lemmas.Bool.{true≢false}
 use Rattle.std.specs.Ordering.{nat_cmp}
 use Rattle.std.specs.Cmp.{nat_cmp_total}
 use Rattle.std.specs.FinMap.{nat_cmp-IsAntisymmetric}
-use Rattle.std.specs.Bool.{IsTrue}
-use Rattle.job_states.specs.Ranges.{is_in_range, is_limited}
 use Rattle.job_states.specs.declared.command.Kind.{Kind}
 use Rattle.job_states.specs.declared.job.JobRow.{JobRow}
 use Rattle.job_states.specs.declared.job.State.{State}
@@ -166,8 +164,3 @@ ran w m task time id rows last_runs recurring wrote runs h = let is = becomes_la
     kept : (id : Option ℕ) → changes m (sees w (holds w (Run task time id))) (Run task time id) ≡ Some rows → without_job w.recurring id rows.job ≡ w.recurring
     kept None h = refl
     kept (Some id) h = none_goes w.recurring id rows.job (has_job m (sees w (holds w (Run task time (Some id)))) task time id rows h)
-
--- ---- ranges
-
-pub limit_in_range : (row : JobRow) (p : Put) → IsTrue (is_in_range (Enqueue row p)) → IsTrue (is_limited row.limited)
-limit_in_range row p h = grind arith

@@ -1,46 +1,24 @@
--- What taking in a transition needs of what it leaves.
+-- What is written of what a transition leaves.
 use Rattle.std.specs.Prelude.{◌≡◌, ℕ, Option, None, Some}
 use Rattle.std.specs.Ordering.{nat_cmp}
 use Rattle.std.specs.declared.cmp.Ordering.{Ordering}
-use Rattle.job_states.specs.Ranges.{is_in_range}
 use Rattle.job_states.specs.declared.job.State.{State}
 use Rattle.job_states.specs.declared.job.State.TheVariants.{Ready, Scheduled, Blocked}
 use Rattle.job_states.specs.declared.transition.Put.{Put}
 use Rattle.job_states.specs.declared.transition.Put.TheVariants as put
 use Rattle.job_states.specs.declared.transition.Transition.{Transition}
-use Rattle.semaphores.specs.Semaphore.{Semaphore}
-use Rattle.queue_model.specs.Chain.{◌>>=◌, ◌>>◌, when}
+use Rattle.queue_model.specs.Chain.{◌>>=◌}
 use Rattle.queue_model.specs.Held.{holds}
 use Rattle.queue_model.specs.Map as map
 use Rattle.queue_model.specs.Map.{Map}
-use Rattle.queue_model.specs.Sights.{Rows, Sight, sees, set, pid_of, with_run, without_job}
-use Rattle.queue_model.specs.Transitions.{changes}
+use Rattle.queue_model.specs.Sights.{Rows, set, pid_of, with_run, without_job}
 use Rattle.queue_model.specs.World.{World, text_cmp, run_cmp}
 use Rattle.queue_model.specs.declared.Job.{Job}
 use Rattle.queue_model.specs.declared.Process.{Process}
-use Rattle.transition_table.specs.Seen.{job_seen, permit_of}
 
 -- what stands at the key, where there is one
 abbrev pub row_at : {K X : Type 0} {R : K → K → Ordering} → Option K → Map R X → Option X
 row_at k m = k >>= map.get m
-
--- what a transition leaves at its rows, where it is legal
-abbrev pub legal_rows : World → (moment : ℕ) → Transition → Option Rows
-legal_rows w m t = do
-  when (is_in_range t)
-  changes m (sees w (holds w t)) t
-
--- the permit that its job then holds, and the semaphore of its key
-abbrev pub judged : Option Rows → Option (Option ℕ × Option Semaphore)
-judged None = None
-judged (Some rows) = Some (permit_of (job_seen rows.job), rows.semaphore)
-
--- at some sight the transition is legal, and leaves this semaphore
-pub record Leaves (m : ℕ) (t : Transition) (semaphore : Option Semaphore) : Type 0 where
-  pub sight : Sight
-  pub rows : Rows
-  pub legal : changes m sight t ≡ Some rows
-  pub left : rows.semaphore ≡ semaphore
 
 abbrev pub with_tables : World → Map nat_cmp Job → Map nat_cmp Process → Map text_cmp (Unit {0}) → Map text_cmp ℕ → Map run_cmp ℕ → World
 with_tables base jobs processes paused last_runs recurring = record base { jobs = jobs; processes = processes; paused = paused; last_runs = last_runs; recurring = recurring }

@@ -1,5 +1,5 @@
 -- What is kept beside the rows of jobs, and what is true of them.
-use Rattle.std.specs.Prelude.{◌≡◌, ◌<◌, ◌==◌, ◌+◌, ◌-◌, if◌then◌else◌, max, ℕ, List, Option, None, Some, IsTrue}
+use Rattle.std.specs.Prelude.{◌≡◌, ◌<◌, ◌==◌, ◌+◌, ◌-◌, if◌then◌else◌, cond, max, ℕ, Bool, List, Option, None, Some, IsTrue}
 use Rattle.std.specs.List.{count_by}
 use Rattle.std.specs.Option.{unwrap_or}
 use Rattle.std.specs.Ordering.{nat_cmp}
@@ -19,6 +19,10 @@ claims_in jobs pid = count_by (is_claimed_by pid) (map.values jobs)
 -- how many of these jobs hold a permit of this key and generation
 abbrev pub holders_in : map.Map nat_cmp Job → List ℕ → ℕ → ℕ
 holders_in jobs key generation = count_by (is_holder key generation) (map.values jobs)
+
+-- one of a count, or none
+abbrev pub bit : Bool → ℕ
+bit b = cond b 1 0
 
 -- a count that is kept where it isn't 0
 abbrev pub kept_count : ℕ → Option ℕ

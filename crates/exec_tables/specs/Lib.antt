@@ -1,6 +1,5 @@
 pub mod Apply
 pub mod Jobs
-pub mod Legal
 pub mod Names
 pub mod Next
 pub mod Room

@@ -18,7 +18,7 @@ use Rattle.queue_model.specs.declared.Job.{Job}
 use Rattle.queue_model.specs.declared.Process.{Process}
 use Rattle.queue_model.specs.declared.Numbers.{Numbers}
 use Rattle.exec_tables.specs.Store.{Store}
-use Rattle.exec_tables.specs.Table.{Table, RunTable}
+use Rattle.exec_tables.specs.Table.{JobTable, RunTable}
 
 pub same_entries : {K X : Type 0} {R : K → K → Ordering} (m n : Map R X) → m.entries ≡ n.entries → m ≡ n
 same_entries {K} {X} {R} m n e =
@@ -27,9 +27,6 @@ same_entries {K} {X} {R} m n e =
 
 abbrev coded_map : {K X : Type 0} (R : K → K → Ordering) → Coded K → Coded X → Coded (Map R X)
 coded_map R k x = coded_via (coded_list (coded× k x)) (λ m. m.entries) same_entries
-
-abbrev coded_table : {K X : Type 0} (R : K → K → Ordering) → Coded K → Coded X → Coded (Table R X)
-coded_table R k x = code_by (Map R _ × ℕ) (coded× (coded_map R k x) coded_ℕ) (λ t. (t.rows, t.room)) (λ p. record { rows = p.0; room = p.1 }) (λ _. refl)
 
 abbrev coded_text : Coded (List ℕ)
 coded_text = coded_list coded_ℕ
@@ -40,17 +37,8 @@ coded_run = coded× coded_text coded_ℕ
 abbrev coded_semaphore : Coded Semaphore
 coded_semaphore = code_by (ℕ × (ℕ × (ℕ × ℕ))) (coded× coded_ℕ (coded× coded_ℕ (coded× coded_ℕ coded_ℕ))) (λ s. (s.generation, (s.limit, (s.free, s.expires)))) (λ p. semaphore p.0 p.1.0 p.1.1.0 p.1.1.1) (λ _. refl)
 
-abbrev pub coded_jobs : Coded (Table nat_cmp Job)
-coded_jobs = coded_table nat_cmp coded_ℕ job.the_row.coded
-
-abbrev pub coded_semaphores : Coded (Table text_cmp Semaphore)
-coded_semaphores = coded_table text_cmp coded_text coded_semaphore
-
-abbrev pub coded_processes : Coded (Table nat_cmp Process)
-coded_processes = coded_table nat_cmp coded_ℕ process.the_row.coded
-
-abbrev pub coded_pauses : Coded (Table text_cmp (Unit {0}))
-coded_pauses = coded_table text_cmp coded_text coded_unit
+abbrev pub coded_jobs : Coded JobTable
+coded_jobs = code_by (Map nat_cmp Job × ℕ) (coded× (coded_map nat_cmp coded_ℕ job.the_row.coded) coded_ℕ) (λ t. (t.rows, t.room)) (λ p. record { rows = p.0; room = p.1 }) (λ _. refl)
 
 abbrev pub coded_runs : Coded RunTable
 coded_runs = code_by (Map text_cmp ℕ × (Map run_cmp ℕ × ℕ)) (coded× (coded_map text_cmp coded_text coded_ℕ) (coded× (coded_map run_cmp coded_run coded_ℕ) coded_ℕ)) (λ t. (t.last, (t.recurring, t.room))) (λ p. record { last = p.0; recurring = p.1.0; room = p.1.1 }) (λ _. refl)

@@ -1,11 +1,13 @@
--- A table as a contract sees it: its rows, and for how many more there is room.
+-- Tables as a contract sees them: their rows, and for how many more there is room.
 use Rattle.std.specs.Prelude.{ℕ}
-use Rattle.std.specs.declared.cmp.Ordering.{Ordering}
+use Rattle.std.specs.Ordering.{nat_cmp}
 use Rattle.queue_model.specs.Map.{Map}
 use Rattle.queue_model.specs.World.{text_cmp, run_cmp}
+use Rattle.queue_model.specs.declared.Job.{Job}
 
-pub record Table {K : Type 0} (R : K → K → Ordering) (X : Type 0) : Type 0 where
-  pub rows : Map R X
+-- the jobs, by number
+pub record JobTable : Type 0 where
+  pub rows : Map nat_cmp Job
   pub room : ℕ
 
 -- the runs of tasks

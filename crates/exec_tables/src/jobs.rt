@@ -12,6 +12,7 @@ ghost use Rattle.queue_model.specs.World.{job};
 ghost use Rattle.queue_model.specs.declared.Job.{Job as Row};
 ghost use Rattle.exec_tables.specs.Jobs.{claimant_at, claimant_of, claims_in, count_in, counts_of, holders_in, lowered, newer, raised};
 ghost use Rattle.queue_model.specs.World as world;
+ghost use Rattle.transition_table.specs.Seen.{job_seen};
 
 use crate::rows::{find, put, remove, replace, reserve};
 use indexmap::IndexMap;
@@ -20,6 +21,7 @@ use job_states::{Counters, JobId, NoMemory, Pid, State, Text};
 use queue_model::Job;
 use std::alloc::Global;
 use std::marker::Model;
+use transition_table::{Found, holds_permit};
 
 #[derive(Drop)]
 pub struct Jobs {
@@ -32,15 +34,14 @@ pub struct Jobs {
 
 impl Model for Jobs {
     ghost use Rattle.std.specs.Prelude.{min};
-    ghost use Rattle.std.specs.Ordering.{nat_cmp};
     ghost use Rattle.indexmap.specs.IndexMap.{spare};
     ghost use Rattle.queue_model.specs.Map as map;
     ghost use Rattle.queue_model.specs.declared.Job.{Job};
     ghost use Rattle.exec_tables.specs.Jobs.{AreKept};
     ghost use Rattle.exec_tables.specs.Stored.{coded_jobs};
-    ghost use Rattle.exec_tables.specs.Table.{Table};
+    ghost use Rattle.exec_tables.specs.Table.{JobTable};
 
-    ghost Value = { Table nat_cmp Job };
+    ghost Value = { JobTable };
 
     ghost coded = { coded_jobs };
 
@@ -67,6 +68,13 @@ impl Jobs {
         ensures limit { IfSome result (λ j. IsTrue (is_limited j.now.row.limited)) }
     {
         find(&self.rows, &id)
+    }
+
+    /// The job of this number, as far as the table of transitions reads it.
+    pub fn found(&self, id: JobId) -> Option<Found>
+        ensures { result ≡ job_seen (map.get self.now.rows id) }
+    {
+        Some(Found::of(self.get(id)?))
     }
 
     /// The jobs, in whatever order.
@@ -206,10 +214,12 @@ fn newer(newest: u64, state: &State) -> u64
 fn is_holder(job: &Job, key: &Text, generation: u64) -> bool
     ensures { result ≡ world.is_holder key.now generation job.now }
 {
-    match &job.row.limited {
-        None => false,
-        Some(limited) => limited.key == *key && job.state.permit() == Some(generation),
-    }
+    holds_permit(
+        job.row.limited.as_ref(),
+        job.state.permit(),
+        key,
+        generation,
+    )
 }
 
 // ---- the counts of claims

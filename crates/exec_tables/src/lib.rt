@@ -7,18 +7,15 @@ mod apply;
 mod blanks;
 mod jobs;
 mod least;
-mod legal;
 mod look_ups;
 mod names;
 mod nexts;
-mod pauses;
 mod places;
-mod processes;
 mod rows;
 mod runs;
-mod semaphore_rows;
 mod tables;
 #[cfg(test)]
 mod tests;
+mod write;
 
 pub use tables::Tables;

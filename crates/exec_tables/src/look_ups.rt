@@ -1,17 +1,20 @@
 //! Look-ups by key, counts and lists. Only the lists take memory.
-ghost use Rattle.std.specs.Prelude.{◌≡◌, length, is_some, IfOk};
+ghost use Rattle.std.specs.Prelude.{◌≡◌, ◌<◌, ◌^◌, length, is_some, IfOk};
 ghost use Rattle.std.specs.Option.{option_copied};
 ghost use Rattle.queue_model.specs.Map as map;
-ghost use Rattle.queue_model.specs.World.{claims};
+ghost use Rattle.queue_model.specs.World.{claims, holders};
+ghost use Rattle.transition_table.specs.Seen.{job_seen};
 ghost use Rattle.exec_tables.specs.Names.{AreSorted};
 ghost use Rattle.exec_tables.specs.Next.{Listed, by_key, by_ready_queue};
 
 use crate::Tables;
 use crate::names::sorted_names;
 use crate::places::ready_queue;
+use crate::rows::find;
 use job_states::{JobId, Moment, Name, NoMemory, Pid, Text};
 use queue_model::{Job, Numbers, Process};
 use semaphores::Sem;
+use transition_table::Found;
 
 impl Tables {
     /// The job of this number.
@@ -21,11 +24,26 @@ impl Tables {
         self.jobs.get(id)
     }
 
+    /// The job of this number, as far as the table of transitions reads it.
+    pub fn found(&self, id: JobId) -> Option<Found>
+        ensures { result ≡ job_seen (map.get self.now.world.jobs id) }
+    {
+        self.jobs.found(id)
+    }
+
     /// How many jobs are kept, finished ones among them.
     pub fn kept(&self) -> u64
         ensures { result ≡ length (map.values self.now.world.jobs) }
     {
         self.jobs.len()
+    }
+
+    /// The jobs are fewer than 2^63, and so is whatever is counted of them. It does nothing: its contract is the
+    /// statement.
+    pub fn jobs_are_few(&self)
+        ensures { length (map.values self.now.world.jobs) < 2 ^ 63 }
+    {
+        self.jobs.len();
     }
 
     /// How many jobs the process has claimed.
@@ -35,25 +53,40 @@ impl Tables {
         self.jobs.claims(pid)
     }
 
+    /// How many jobs hold a permit of this key and generation. It passes over the jobs only where the generation isn't
+    /// new.
+    pub fn holders(&self, key: &Text, generation: u64) -> u64
+        ensures { result ≡ holders self.now.world key.now generation }
+    {
+        self.jobs.holders(key, generation)
+    }
+
     /// The semaphore of the key.
     pub fn semaphore(&self, key: &Text) -> Option<Sem>
         ensures { result ≡ map.get self.now.world.semaphores key.now }
     {
-        self.semaphores.get(key)
+        find(&self.semaphores, key).copied()
     }
 
     /// The process of this number.
     pub fn process(&self, pid: Pid) -> Option<&Process>
         ensures { option_copied result ≡ map.get self.now.world.processes pid }
     {
-        self.processes.get(pid)
+        find(&self.processes, &pid)
+    }
+
+    /// How many processes are registered.
+    pub fn registered(&self) -> u64
+        ensures { result ≡ length (map.values self.now.world.processes) }
+    {
+        self.processes.len() as u64
     }
 
     /// Is the queue paused?
     pub fn is_paused(&self, queue: &Name) -> bool
         ensures { result ≡ is_some (map.get self.now.world.paused queue.now) }
     {
-        self.pauses.contains(queue)
+        find(&self.pauses, queue).is_some()
     }
 
     /// The task's last run.

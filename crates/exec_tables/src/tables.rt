@@ -5,12 +5,12 @@ ghost use Rattle.queue_model.specs.World as model;
 
 use crate::blanks::Blanks;
 use crate::jobs::Jobs;
-use crate::pauses::Pauses;
-use crate::processes::Processes;
+use crate::rows::reserve;
 use crate::runs::Runs;
-use crate::semaphore_rows::Semaphores;
-use job_states::{NoMemory, Transaction};
-use queue_model::Numbers;
+use indexmap::IndexMap;
+use job_states::{Name, NoMemory, Pid, Text, Transaction};
+use queue_model::{Numbers, Process};
+use semaphores::Sem;
 use std::alloc::Global;
 use std::marker::Model;
 
@@ -19,9 +19,10 @@ use std::marker::Model;
 #[derive(Drop)]
 pub struct Tables {
     pub(crate) jobs: Jobs,
-    pub(crate) semaphores: Semaphores,
-    pub(crate) processes: Processes,
-    pub(crate) pauses: Pauses,
+    pub(crate) semaphores: IndexMap<Text, Sem>,
+    pub(crate) processes: IndexMap<Pid, Process>,
+    /// The queues that are paused.
+    pub(crate) pauses: IndexMap<Name, ()>,
     pub(crate) runs: Runs,
     pub(crate) numbers: Numbers,
     /// For the keys of new semaphores.
@@ -30,6 +31,8 @@ pub struct Tables {
 }
 
 impl Model for Tables {
+    ghost use Rattle.indexmap.specs.IndexMap as index;
+    ghost use Rattle.queue_model.specs.Map as map;
     ghost use Rattle.exec_tables.specs.Store.{Store};
     ghost use Rattle.exec_tables.specs.Stored.{coded_store};
     ghost use Rattle.exec_tables.specs.Room.{HasRoom};
@@ -41,9 +44,9 @@ impl Model for Tables {
     ghost view = { λ t. record {
       world = record {
         jobs = t.jobs.rows;
-        semaphores = t.semaphores.rows;
-        processes = t.processes.rows;
-        paused = t.pauses.rows;
+        semaphores = map.from_entries t.semaphores.entries;
+        processes = map.from_entries t.processes.entries;
+        paused = map.from_entries t.pauses.entries;
         last_runs = t.runs.last;
         recurring = t.runs.recurring;
         numbers = t.numbers;
@@ -51,7 +54,7 @@ impl Model for Tables {
       spare = t.spare;
     } };
 
-    ghost invariant = { λ t. HasRoom t.spare t.jobs.room t.semaphores.room t.processes.room t.pauses.room t.runs.room t.blanks };
+    ghost invariant = { λ t. HasRoom t.spare t.jobs.room (index.spare t.semaphores) (index.spare t.processes) (index.spare t.pauses) t.runs.room t.blanks };
 }
 
 impl Tables {
@@ -62,9 +65,9 @@ impl Tables {
     {
         Tables {
             jobs: Jobs::new(alloc),
-            semaphores: Semaphores::new(alloc),
-            processes: Processes::new(alloc),
-            pauses: Pauses::new(alloc),
+            semaphores: IndexMap::new(alloc),
+            processes: IndexMap::new(alloc),
+            pauses: IndexMap::new(alloc),
             runs: Runs::new(alloc),
             numbers: Numbers {
                 job: 1,
@@ -87,9 +90,9 @@ impl Tables {
             return Err(NoMemory);
         };
         self.jobs.reserve(spare)?;
-        self.semaphores.reserve(spare)?;
-        self.processes.reserve(spare)?;
-        self.pauses.reserve(spare)?;
+        reserve(&mut self.semaphores, spare)?;
+        reserve(&mut self.processes, spare)?;
+        reserve(&mut self.pauses, spare)?;
         self.runs.reserve(spare)?;
         self.blanks.reserve(spare)?;
         self.spare = spare;

@@ -1,6 +1,7 @@
 -- What the table reads of a transition's rows, and what it leaves there: no texts but the key and no more of a process than
 -- that it is registered.
-use Rattle.std.specs.Prelude.{◌==◌, ◌≤◌, ℕ, length, Bool, true, ◌||◌, Option, None, Some, is_some}
+use Rattle.std.specs.Prelude.{◌==◌, ◌≤◌, ◌<◌, ◌-◌, ◌^◌, ℕ, length, Bool, true, ◌||◌, Option, None, Some, is_some}
+use Rattle.std.specs.Option.{ForSome}
 use Rattle.job_states.specs.declared.job.Limited.{Limited}
 use Rattle.job_states.specs.declared.job.State.{State}
 use Rattle.job_states.specs.declared.job.State.TheVariants as state
@@ -9,7 +10,7 @@ use Rattle.job_states.specs.declared.transition.Put.TheVariants as put
 use Rattle.job_states.specs.declared.transition.Transition.{Transition}
 use Rattle.job_states.specs.declared.transition.Transition.TheVariants.{Enqueue}
 use Rattle.semaphores.specs.Semaphore.{Semaphore}
-use Rattle.queue_model.specs.Named.{generation_named}
+use Rattle.queue_model.specs.Named.{job_named, pid_named, generation_named}
 use Rattle.queue_model.specs.Sights as model
 use Rattle.queue_model.specs.declared.Job.{Job}
 use Rattle.transition_table.specs.declared.found.Stand.{Stand}
@@ -57,6 +58,11 @@ abbrev pub limited_of : Option Found → Option Limited
 limited_of None = None
 limited_of (Some f) = f.limited
 
+-- the limit of a new job
+abbrev pub new_limit : Transition → Option Limited
+new_limit (Enqueue row put) = row.limited
+new_limit t = None
+
 -- the limit of a new job, or of the one that is found
 abbrev pub limited_then : Transition → Option Found → Option Limited
 limited_then (Enqueue row put) job = row.limited
@@ -72,6 +78,14 @@ stand_put (put.Ready permit) = Some (Ready permit)
 stand_put (put.Scheduled at) = Some (Scheduled at)
 stand_put (put.Blocked until) = Some (Blocked until)
 stand_put put.Away = None
+
+-- ---- the numbers that are named
+
+-- each has a next one
+pub record HasNext (t : Transition) : Type 0 where
+  pub job : ForSome (job_named t) (λ n. n < 2 ^ 64 - 1)
+  pub pid : ForSome (pid_named t) (λ n. n < 2 ^ 64 - 1)
+  pub generation : ForSome (generation_named t) (λ n. n < 2 ^ 64 - 1)
 
 -- ---- rows
 

@@ -1,3 +1,9 @@
+ghost use Rattle.std.specs.Prelude.{◌≡◌};
+ghost use Rattle.std.specs.Option.{option_copied};
+ghost use Rattle.job_states.specs.States.{permit_of};
+ghost use Rattle.queue_model.specs.World.{is_holder};
+ghost use Rattle.queue_model.specs.declared.Job.{Job};
+
 use job_states::{Limited, Moment, Pid, State, Text};
 use std::marker::Model;
 
@@ -89,9 +95,22 @@ impl<'a> Found<'a> {
     pub fn holds_permit(&self, key: &Text, generation: u64) -> bool
         ensures { (j : Job) → self.now ≡ found j → result ≡ is_holder key.now generation j }
     {
-        match self.limited {
-            Some(limited) => limited.key == *key && self.stand.permit() == Some(generation),
-            None => false,
-        }
+        holds_permit(self.limited, self.stand.permit(), key, generation)
+    }
+}
+
+/// Does a job under this limit, whose permit is of the generation `permit`, hold one of this key and generation?
+pub fn holds_permit(
+    limited: Option<&Limited>,
+    permit: Option<u64>,
+    key: &Text,
+    generation: u64,
+) -> bool
+    ensures { (j : Job) → option_copied limited.entry ≡ j.row.limited → permit ≡ permit_of j.state
+        → result ≡ is_holder key.now generation j }
+{
+    match limited {
+        Some(limited) => limited.key == *key && permit == Some(generation),
+        None => false,
     }
 }

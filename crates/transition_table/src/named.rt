@@ -1,8 +1,8 @@
 //! The numbers that a transition names, and the next ones after it.
-ghost use Rattle.std.specs.Prelude.{◌≡◌, ◌<◌, ◌^◌, ◌-◌, IsTrue};
+ghost use Rattle.std.specs.Prelude.{◌≡◌, ◌<◌, ◌^◌, ◌-◌};
 ghost use Rattle.std.specs.Option.{ForSome};
-ghost use Rattle.job_states.specs.Ranges.{is_in_range};
 ghost use Rattle.queue_model.specs.Named as model;
+ghost use Rattle.transition_table.specs.Seen.{HasNext};
 
 use job_states::{JobId, Moment, Pid, Put, Transition};
 use queue_model::Numbers;
@@ -64,7 +64,7 @@ fn put_named(put: &Put) -> Option<u64>
 
 /// Raises each next number above the one that a transition of this moment names, and the last moment to this one.
 pub fn note(numbers: &mut Numbers, moment: Moment, step: &Transition)
-    requires { IsTrue (is_in_range step.now) }
+    requires { HasNext step.now }
     ensures { numbers.new ≡ model.noted numbers.old moment step.now }
 {
     numbers.job = above(numbers.job, job_named(step));

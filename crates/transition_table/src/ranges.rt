@@ -1,5 +1,5 @@
 //! The ranges of what a transition carries.
-ghost use Rattle.std.specs.Prelude.{◌≡◌, ◌^◌, nat_lt, Some};
+ghost use Rattle.std.specs.Prelude.{◌≡◌, ◌^◌, nat_lt, Some, IsTrue};
 ghost use Rattle.std.specs.List.{list_all};
 ghost use Rattle.std.specs.Option.{option_copied};
 ghost use Rattle.std.specs.Str.{is_utf8};
@@ -7,6 +7,7 @@ ghost use Rattle.job_states.specs.Length as lengths;
 ghost use Rattle.job_states.specs.Moment as moments;
 ghost use Rattle.job_states.specs.Ranges as range;
 ghost use Rattle.job_states.specs.Texts as texts;
+ghost use Rattle.transition_table.specs.Seen.{HasNext, IsFit, new_limit};
 
 use job_states::{Counted, Counters, JobRow, LAST, Limited, Moment, Name, Put, Text, Transition};
 use std::str;
@@ -19,8 +20,11 @@ pub fn is_moment(moment: Moment) -> bool
 }
 
 /// Is all that the transition carries within its range?
+#[tactic(auto, using(crate::proofs::InRange::fit, crate::proofs::InRange::next))]
 pub fn is_in_range(step: &Transition) -> bool
-    ensures { result ≡ range.is_in_range step.now }
+    ensures exact { result ≡ range.is_in_range step.now }
+    ensures fit { IsTrue result → IsFit (new_limit step.now) }
+    ensures next { IsTrue result → HasNext step.now }
 {
     match step {
         Transition::Enqueue { row, put } => {

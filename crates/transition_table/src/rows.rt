@@ -1,7 +1,6 @@
 //! The rows that a transition holds.
-ghost use Rattle.std.specs.Prelude.{◌≡◌, ◌≤◌, ℕ, length, Option, Some, IsTrue, IsSome, IfSome};
+ghost use Rattle.std.specs.Prelude.{◌≡◌, ◌≤◌, ℕ, length, Option, Some, IsSome, IfSome};
 ghost use Rattle.std.specs.Option.{option_copied};
-ghost use Rattle.job_states.specs.Ranges.{is_in_range};
 ghost use Rattle.queue_model.specs.Sights.{Rows, Sight};
 ghost use Rattle.queue_model.specs.Transitions.{changes};
 ghost use Rattle.queue_model.specs.Held.{held};
@@ -34,17 +33,17 @@ impl<'a> Model for Held<'a> {
 }
 
 impl<'a> Held<'a> {
-    ghost use Rattle.std.specs.Prelude.{◌≡◌, ◌≤◌, ℕ, length, Option, Some, IsTrue, IsSome, IfSome};
-    ghost use Rattle.job_states.specs.Ranges.{is_in_range};
+    ghost use Rattle.std.specs.Prelude.{◌≡◌, ◌≤◌, ℕ, length, Option, Some, IsSome, IfSome};
     ghost use Rattle.queue_model.specs.Held.{held};
     ghost use Rattle.queue_model.specs.Sights.{Rows, Sight};
     ghost use Rattle.queue_model.specs.Transitions.{changes};
     ghost use Rattle.queue_model.specs.declared.Job.{Job};
     ghost use Rattle.transition_table.specs.Seen.{job_seen};
+    ghost use Rattle.transition_table.specs.Seen as spec;
 
-    /// The rows that the transition holds; `job` is the job that it names, as it is found.
+    /// The rows that the transition holds; `job` is the job that it names, as it is found. The limit of a new job is fit.
     pub fn of(step: &'a Transition, job: &Option<Found<'a>>) -> Held<'a>
-        requires { IsTrue (is_in_range step.now) }
+        requires { spec.IsFit (spec.new_limit step.now) }
         ensures held { (j : Option Job) → job.now ≡ job_seen j → result ≡ held j step.now }
 
         // Where a legal transition leaves a semaphore, its key has at most 257 bytes.
@@ -60,8 +59,9 @@ impl<'a> Held<'a> {
     }
 }
 
-fn key_held<'a>(step: &'a Transition, job: &Option<Found<'a>>) -> Option<&'a Text>
-    requires { IsTrue (is_in_range step.now) }
+/// The key alone of the rows that the transition holds.
+pub fn key_held<'a>(step: &'a Transition, job: &Option<Found<'a>>) -> Option<&'a Text>
+    requires { spec.IsFit (spec.new_limit step.now) }
     ensures held { (j : Option Job) → job.now ≡ spec.job_seen j → option_copied result ≡ (held j step.now).key }
     ensures short { (m : ℕ) (s : Sight) (rows : Rows) → changes m s step.now ≡ Some rows → IsSome rows.semaphore → IfSome (option_copied result) (λ key. length key ≤ 257) }
 {

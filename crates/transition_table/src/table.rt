@@ -1,7 +1,6 @@
 //! The table of transitions, by columns: when one is legal, and what then stands at each kind of row that it holds.
-ghost use Rattle.std.specs.Prelude.{◌≡◌, ℕ, Some, None, Option, IsTrue, is_some};
+ghost use Rattle.std.specs.Prelude.{◌≡◌, ℕ, Some, None, Option, is_some};
 ghost use Rattle.std.specs.Option.{option_copied};
-ghost use Rattle.job_states.specs.Ranges.{is_in_range};
 ghost use Rattle.job_states.specs.declared.transition.Transition.TheVariants.{Enqueue, Dispatch, Retry};
 ghost use Rattle.job_states.specs.declared.job.JobRow.{JobRow as Row};
 ghost use Rattle.semaphores.specs.Semaphore.{Semaphore};
@@ -17,7 +16,7 @@ use semaphores::{Sem, expired, give_back, is_closed, take};
 
 // ---- when a transition is legal
 
-/// Is the transition legal where it sees this?
+/// Is the transition legal where it sees this? Ranges are left aside: `is_in_range` judges them.
 pub fn allows(moment: Moment, sight: &Sight, step: &Transition) -> bool
     ensures { (s : model.Sight) → sight.now ≡ spec.sight s step.now → result ≡ is_some (rules.changes moment s step.now) }
 {
@@ -157,7 +156,7 @@ pub fn job_then<'a>(
     step: &'a Transition,
     job: &Option<Found<'a>>,
 ) -> Option<Found<'a>>
-    requires { IsTrue (is_in_range step.now) }
+    requires { spec.IsFit (spec.new_limit step.now) }
     ensures { (s : model.Sight) (rows : model.Rows) → rules.changes moment s step.now ≡ Some rows → job.now ≡ spec.job_seen s.rows.job → result ≡ spec.job_seen rows.job }
 {
     match stand_then(moment, step, job) {
@@ -206,7 +205,7 @@ fn stand_put(put: &Put) -> Option<Stand>
 
 // The limit of a new job, or of the one that is found.
 pub(crate) fn limited_then<'a>(step: &'a Transition, job: &Option<Found<'a>>) -> Option<&'a Limited>
-    requires { IsTrue (is_in_range step.now) }
+    requires { spec.IsFit (spec.new_limit step.now) }
     ensures same { option_copied result ≡ spec.limited_then step.now job.now }
     ensures fit { spec.IsFit (option_copied result) }
 {
@@ -232,7 +231,7 @@ pub fn semaphore_then(
     job: &Option<Found>,
     semaphore: Option<Sem>,
 ) -> Option<Sem>
-    requires { IsTrue (is_in_range step.now) }
+    requires { spec.IsFit (spec.new_limit step.now) }
     ensures { (s : model.Sight) (rows : model.Rows) → rules.changes moment s step.now ≡ Some rows → job.now ≡ spec.job_seen s.rows.job → semaphore ≡ s.rows.semaphore → result ≡ rows.semaphore }
 {
     let limited = limited_then(step, job);
@@ -337,7 +336,7 @@ pub fn last_run_then(step: &Transition, last_run: Option<Moment>) -> Option<Mome
 
 /// What stands at the rows that the transition holds after it. `None` where it isn't legal.
 pub fn changes<'a>(moment: Moment, sight: Sight<'a>, step: &'a Transition) -> Option<Seen<'a>>
-    requires { IsTrue (is_in_range step.now) }
+    requires { spec.IsFit (spec.new_limit step.now) }
     ensures { (s : model.Sight) → sight.entry ≡ spec.sight s step.now → result ≡ spec.all_seen (rules.changes moment s step.now) }
 {
     if !allows(moment, &sight, step) {

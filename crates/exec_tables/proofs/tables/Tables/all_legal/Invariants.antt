@@ -1,6 +1,0 @@
-use Rattle.std.proofs.Common.{IsSome, take}
-use Rattle.queue_model.specs.Replay.{steps}
-use Rattle.exec_tables.proofs.tables.Tables.all_legal.Given as goal
-
-abbrev pub invariant-loop-at : goal.invariant-loop-at
-invariant-loop-at l = IsSome (steps l.self.world l.moment (take l.at l.steps))
