@@ -1,21 +1,14 @@
--- The plans that end claims, or make them, are legal and covered.
+-- A command that ends a claim and isn't refused finds it.
 use Rattle.std.proofs.Common.{◌≡◌, ℕ, true, [], ◌∷◌, Some, Ok}
 use Rattle.job_states.specs.States.{stage_of, is_claimed}
-use Rattle.job_states.specs.declared.answer.Answer.TheVariants as answer
-use Rattle.job_states.specs.declared.command.Command.TheVariants as command
-use Rattle.job_states.specs.declared.transition.Transition.TheVariants.{Release}
 use Rattle.queue_model.specs.Map as map
 use Rattle.queue_model.specs.declared.Job.{Job}
-use Rattle.plan_model.specs.Drafts.{begin, push}
-use Rattle.plan_model.specs.GoodScene.{IsGoodScene, IsSound}
-use Rattle.plan_model.specs.JobCommands.{job_plan, of_claim}
-use Rattle.plan_model.specs.Planned.{Drafted, drafted, planned}
+use Rattle.plan_model.specs.JobCommands.{of_claim}
+use Rattle.plan_model.specs.Planned.{Drafted, planned}
 use Rattle.plan_model.specs.Plans.{Plan}
 use Rattle.plan_model.specs.Refusals.{no_such_job, wrong_state, not_claimant, numbers_spent}
 use Rattle.plan_model.specs.Scenes.{Scene}
-use Rattle.plan_model.proofs.DraftLemmas.{pushed}
-use Rattle.plan_model.proofs.LegalSteps as legal
-use Rattle.plan_model.proofs.PlanLemmas.{accepted, unmet, job_there, right_state, begun, sound}
+use Rattle.plan_model.proofs.PlanLemmas.{accepted, unmet, job_there, right_state}
 
 pub record IsClaim (s : Scene) (id : ℕ) : Type 0 where
   pub job : Job
@@ -30,10 +23,3 @@ claim_there s pid id made plan e =
     let second = unmet (wrong_state s id is_claimed) (not_claimant s pid id ∷ numbers_spent s made.draft ∷ []) first.1 in
     let j = job_there s id first.0 in
     record { job = j.0; found = j.1; claimed = right_state s id is_claimed j.0 j.1 second.0 }
-
-pub release : (s : Scene) (pid id : ℕ) (plan : Plan) → IsGoodScene s → job_plan s (command.Release pid id) ≡ Ok plan → IsSound s plan
-release s pid id plan good e =
-    let made : Drafted = drafted (push s.moment (Release id) (begin s)) (answer.Released id) in
-    let c = claim_there s pid id made plan e in
-    let step = legal.release s.book.world s.moment id c.job good.world c.found c.claimed in
-    sound s made plan good (pushed s.book.world step.0 s.moment (Release id) (begin s) (begun s) step.1) (accepted s (of_claim s pid id) made plan e).1

@@ -13,7 +13,7 @@ use Rattle.queue_model.proofs.Maps.{get-insert}
 use Rattle.queue_model.proofs.Steps.{same_Some}
 use Rattle.row_locks.proofs.Membership.{none, Contains-head, Contains-tail, Contains-cons_cases, Contains-from_map}
 
-both : (a b : Bool) → T (a && b) → T a × T b
+pub both : (a b : Bool) → T (a && b) → T a × T b
 both true b p = (tt, p)
 both false b p = absurd p
 
@@ -24,7 +24,7 @@ less Greater p = absurd p
 
 module _ {K X : Type 0} {R : K → K → Ordering} (o : IsTotalOrder R) where
   -- below all keys, no key is found
-  none_below : (k : K) (es : List (K × X)) → T (below_all R k es) → find R k es ≡ None
+  pub none_below : (k : K) (es : List (K × X)) → T (below_all R k es) → find R k es ≡ None
   none_below k [] p = refl
   none_below k (e ∷ es) p = let q = both (is_lt (R k e.0)) (below_all R k es) p in
       ap (λ r. cond (is_eq r) (Some e.1) (find R k es)) (less (R k e.0) q.0) ∙ none_below k es q.1
@@ -53,7 +53,7 @@ module _ {K X : Type 0} {R : K → K → Ordering} (o : IsTotalOrder R) where
   count_none p m h = none_pass p m.entries m.sorted h
 
   -- an entry that is there is found
-  entry_found : (es : List (K × X)) (e : K × X) → T (is_sorted R es) → Contains es e → find R e.0 es ≡ Some e.1
+  pub entry_found : (es : List (K × X)) (e : K × X) → T (is_sorted R es) → Contains es e → find R e.0 es ≡ Some e.1
   entry_found [] e s h = absurd (none e h)
   entry_found (x ∷ es) e s h =
       let q = both (below_all R x.0 es) (is_sorted R es) s in
@@ -74,6 +74,22 @@ module _ {K X : Type 0} {R : K → K → Ordering} (o : IsTotalOrder R) where
       by : (b : Bool) → cond b (Some e.1) (get (from_entries {R = R} es) k) ≡ Some v → (get (from_entries {R = R} es) k ≡ Some v → Contains (mapped (λ e. e.1) es) v) → Contains (e.1 ∷ mapped (λ e. e.1) es) v
       by true f rest = subst (λ x. Contains (e.1 ∷ mapped (λ e. e.1) es) x) (same_Some e.1 v f) (Contains-head e.1 (mapped (λ e. e.1) es))
       by false f rest = Contains-tail e.1 (mapped (λ e. e.1) es) v (rest f)
+
+  -- each of its entries is one of theirs, at a key that is tied to its own
+  pub made_at : (es : List (K × X)) (k : K) (v : X) → get (from_entries {R = R} es) k ≡ Some v → (e : K × X) × Contains es e × (e.1 ≡ v) × (R k e.0 ≡ Equal)
+  made_at [] k v h = absurd (true≢false (sym (ap is_some h)))
+  made_at (e ∷ es) k v h = by (R k e.0) refl (sym (get-insert o (from_entries es) e.0 e.1 k) ∙ h) (made_at es k v)
+    where
+      later : ((x : K × X) × Contains es x × (x.1 ≡ v) × (R k x.0 ≡ Equal)) → (x : K × X) × Contains (e ∷ es) x × (x.1 ≡ v) × (R k x.0 ≡ Equal)
+      later f = (f.0, Contains-tail e es f.0 f.1, f.2, f.3)
+
+      by : (r : Ordering) → R k e.0 ≡ r → cond (is_eq r) (Some e.1) (get (from_entries {R = R} es) k) ≡ Some v → (get (from_entries {R = R} es) k ≡ Some v → (x : K × X) × Contains es x × (x.1 ≡ v) × (R k x.0 ≡ Equal)) → (x : K × X) × Contains (e ∷ es) x × (x.1 ≡ v) × (R k x.0 ≡ Equal)
+      by Equal is f rest = (e, Contains-head e es, same_Some e.1 v f, is)
+      by Less is f rest = later (rest f)
+      by Greater is f rest = later (rest f)
+
+  pub entry_made : (es : List (K × X)) (x : K × X) → Contains (from_entries {R = R} es).entries x → (e : K × X) × Contains es e × (e.1 ≡ x.1) × (R x.0 e.0 ≡ Equal)
+  entry_made es x h = made_at es x.0 x.1 (entry_found (from_entries {R = R} es).entries x (from_entries {R = R} es).sorted h)
 
   pub values_of_entries : (es : List (K × X)) (v : X) → Contains (values (from_entries {R = R} es)) v → Contains (mapped (λ e. e.1) es) v
   values_of_entries es v h = let f = value_found (from_entries es) v h in made_of es f.0 v f.1

@@ -1,112 +1,66 @@
--- A new job at the place that its moment and its key give it.
-use Rattle.std.proofs.Common.{◌≡◌, ◌≤◌, ◌<◌, ◌+◌, ◌^◌, ℕ, Bool, true, false, ◌&&◌, not, nat_lt, List, [], ◌∷◌, ◌++◌, Option, None, Some, refl, arith}
+-- A new job takes its place, unless it is discarded.
+use Rattle.std.proofs.Common.{◌≡◌, ◌≢◌, ◌+◌, ℕ, true, false, ◌&&◌, not, Option, ap, sym, refl, subst, arith}
+use Rattle.std.proofs.lemmas.Bool.{and_from}
 use Rattle.std.specs.Option.{ForSome}
-use Rattle.std.specs.Prelude.{◌==◌, cond}
-use Rattle.job_states.specs.Moment.{IsMoment, is_moment, later_moment}
-use Rattle.job_states.specs.Ranges.{is_row}
-use Rattle.job_states.specs.declared.answer.Refused.{Refused}
+use Rattle.job_states.specs.Moment.{IsMoment, is_moment}
+use Rattle.job_states.specs.Ranges.{is_in_range, is_number, is_put, is_row, is_away}
 use Rattle.job_states.specs.declared.job.JobRow.{JobRow}
-use Rattle.job_states.specs.declared.job.Limited.{Limited}
 use Rattle.job_states.specs.declared.transition.Put.{Put}
 use Rattle.job_states.specs.declared.transition.Put.TheVariants.{Ready, Scheduled, Blocked, Away}
 use Rattle.job_states.specs.declared.transition.Transition.{Transition}
 use Rattle.job_states.specs.declared.transition.Transition.TheVariants.{Enqueue}
-use Rattle.semaphores.specs.Semaphore.{Semaphore}
-use Rattle.queue_model.specs.Map as map
-use Rattle.queue_model.specs.Named.{job_named, pid_named, generation_named, noted, above}
+use Rattle.queue_model.specs.Named.{noted, put_named}
 use Rattle.queue_model.specs.World.{World}
-use Rattle.queue_model.specs.declared.Numbers.{Numbers}
-use Rattle.plan_model.specs.Drafts.{Draft, meets, meets_key, enqueue, enqueue_at}
-use Rattle.plan_model.specs.Refusals.{first_met, spent, numbers_spent}
-use Rattle.plan_model.specs.Scenes.{Scene}
-use Rattle.plan_model.proofs.Enqueuing.{IsGoodDraft, IsNotSpent, numbered, free_place, later_place, new_place, open_place, blocked_place}
-use Rattle.plan_model.proofs.PlanLemmas.{unmet, unrefused}
+use Rattle.plan_model.specs.Drafts.{Draft, push, enqueue, enqueue_at, place_for}
+use Rattle.plan_model.specs.Plans.{one}
+use Rattle.plan_model.proofs.AllowedMoves as allowed
+use Rattle.plan_model.proofs.DraftLemmas.{Brings, brings_job}
+use Rattle.plan_model.proofs.GoodDrafts.{IsGoodDraft, stepped, fresh}
+use Rattle.plan_model.proofs.Ranged.{job_fits, place_fits}
+use Rattle.plan_model.proofs.Spending.{IsNotSpent, Rises, stays, noted_rises}
 
--- ---- numbers
+abbrev pub numbered : JobRow → ℕ → JobRow
+numbered row id = record row { id = id }
 
-not_spent : (before after : ℕ) → spent before after ≡ None → before < after → after ≤ 2 ^ 63 + 1
-not_spent before after e rose = most before after (unrefused _ _ e) rose
+row_numbered : (row : JobRow) (id : ℕ) → is_row (numbered row 1) ≡ true → is_number id ≡ true → is_row (numbered row id) ≡ true
+row_numbered row id h n = grind (arith, h, n)
+
+pub enqueued : (w0 : World) (m : ℕ) (row : JobRow) (at : Option ℕ) (d : Draft) → is_moment m ≡ true → is_row (numbered row 1) ≡ true → ForSome at IsMoment → IsGoodDraft w0 m d → IsNotSpent d.given (enqueue m row at d).0.given → IsGoodDraft w0 m (enqueue m row at d).0
+enqueued w0 m row at d moment fits at_fits h unspent = by (place_for d m at row.limited) refl unspent
   where
-    most : (a b : ℕ) → (nat_lt a b && nat_lt (2 ^ 63 + 1) b) ≡ false → a < b → b ≤ 2 ^ 63 + 1
-    most a b f r = grind (arith, f, r)
+    placed : (put : Put) → place_for d m at row.limited ≡ put → put ≢ Away → is_away put ≡ false → IsNotSpent d.given (noted d.given m (Enqueue (numbered row d.given.job) put)) → IsGoodDraft w0 m (push m (Enqueue (numbered row d.given.job) put) d)
+    placed put is stays here unspent =
+        let t : Transition = Enqueue (numbered row d.given.job) put in
+        let number : is_number d.given.job ≡ true = job_fits w0 m d h t unspent refl in
+        let place : is_put put ≡ true = subst (λ p. is_put p ≡ true) is (place_fits w0 m d h t unspent at at_fits row.limited (ap put_named (sym is))) in
+        let range : is_in_range t ≡ true = and_from (is_row (numbered row d.given.job) && is_put put) (not (is_away put)) (and_from (is_row (numbered row d.given.job)) (is_put put) (row_numbered row d.given.job fits number) place) (ap not here) in
+        stepped w0 m t d moment range (allowed.enqueue m d (numbered row d.given.job) at put (fresh w0 m d h) refl (sym is) stays) h
 
-pub none_spent : (s : Scene) (d : Draft) → numbers_spent s d ≡ None → IsNotSpent s.book.given d.given
-none_spent s d e =
-    let a = unmet (spent s.book.given.job d.given.job) (spent s.book.given.pid d.given.pid ∷ spent s.book.given.generation d.given.generation ∷ []) e in
-    let b = unmet (spent s.book.given.pid d.given.pid) (spent s.book.given.generation d.given.generation ∷ []) a.1 in
-    let c = unmet (spent s.book.given.generation d.given.generation) [] b.1 in
-    record { job = not_spent s.book.given.job d.given.job a.0; pid = not_spent s.book.given.pid d.given.pid b.0; generation = not_spent s.book.given.generation d.given.generation c.0 }
+    by : (put : Put) → place_for d m at row.limited ≡ put → IsNotSpent d.given (enqueue_at m row put d).0.given → IsGoodDraft w0 m (enqueue_at m row put d).0
+    by Away is unspent = h
+    by (Ready permit) is unspent = placed (Ready permit) is (λ e. cc) refl unspent
+    by (Scheduled t) is unspent = placed (Scheduled t) is (λ e. cc) refl unspent
+    by (Blocked until) is unspent = placed (Blocked until) is (λ e. cc) refl unspent
 
-pub last_unmet : (causes : List (Option Refused)) (last : Option Refused) → first_met (causes ++ last ∷ []) ≡ None → last ≡ None
-last_unmet [] last e = (unmet last [] e).0
-last_unmet (c ∷ causes) last e = last_unmet causes last (unmet c (causes ++ last ∷ []) e).1
+-- ---- numbers rise, and the job is named
 
--- ---- places
+at_rises : (m : ℕ) (row : JobRow) (put : Put) (d : Draft) → Rises d.given (enqueue_at m row put d).0.given
+at_rises m row Away d = stays d.given
+at_rises m row (Ready permit) d = noted_rises d.given m (Enqueue (numbered row d.given.job) (Ready permit))
+at_rises m row (Scheduled at) d = noted_rises d.given m (Enqueue (numbered row d.given.job) (Scheduled at))
+at_rises m row (Blocked until) d = noted_rises d.given m (Enqueue (numbered row d.given.job) (Blocked until))
 
-module _ (w0 : World) (m : ℕ) (row : JobRow) (d : Draft) (moment : is_moment m ≡ true) (h : IsGoodDraft w0 m d) (fits : is_row (numbered row 1) ≡ true) where
-  at_semaphore : (limited : Limited) → row.limited ≡ Some limited → (s : Semaphore) → map.get d.world.semaphores limited.key ≡ Some s → (full discard : Bool) → (s.free == 0) ≡ full → limited.discard ≡ discard
-      → IsNotSpent d.given (enqueue_at m row (cond (not full) (Ready (Some s.generation)) (cond discard Away (Blocked (later_moment m limited.duration)))) d).0.given
-      → IsGoodDraft w0 m (enqueue_at m row (cond (not full) (Ready (Some s.generation)) (cond discard Away (Blocked (later_moment m limited.duration)))) d).0
-  at_semaphore limited keyed s stands false discard free drops spent = open_place w0 m row d moment h fits limited keyed s stands free spent
-  at_semaphore limited keyed s stands true true free drops spent = h
-  at_semaphore limited keyed s stands true false free drops spent = blocked_place w0 m row d moment h fits limited keyed s stands free drops spent
+pub enqueue_rises : (m : ℕ) (row : JobRow) (at : Option ℕ) (d : Draft) → Rises d.given (enqueue m row at d).0.given
+enqueue_rises m row at d = at_rises m row (place_for d m at row.limited) d
 
-  at_key : (limited : Limited) → row.limited ≡ Some limited → (o : Option Semaphore) → map.get d.world.semaphores limited.key ≡ o
-      → IsNotSpent d.given (enqueue_at m row (meets_key o d.given.generation m limited) d).0.given → IsGoodDraft w0 m (enqueue_at m row (meets_key o d.given.generation m limited) d).0
-  at_key limited keyed None none spent = new_place w0 m row d moment h fits limited keyed none spent
-  at_key limited keyed (Some s) stands spent = at_semaphore limited keyed s stands (s.free == 0) limited.discard refl refl spent
-
-  meeting : (l : Option Limited) → row.limited ≡ l → IsNotSpent d.given (enqueue_at m row (meets d m l) d).0.given → IsGoodDraft w0 m (enqueue_at m row (meets d m l) d).0
-  meeting None none spent = free_place w0 m row d moment h fits none spent
-  meeting (Some limited) keyed spent = at_key limited keyed (map.get d.world.semaphores limited.key) refl spent
-
-  at_moment : (at : ℕ) → IsMoment at → (later : Bool) → nat_lt m at ≡ later → IsNotSpent d.given (enqueue_at m row (cond later (Scheduled at) (meets d m row.limited)) d).0.given → IsGoodDraft w0 m (enqueue_at m row (cond later (Scheduled at) (meets d m row.limited)) d).0
-  at_moment at is true after spent = later_place w0 m row d moment h fits at is after spent
-  at_moment at is false after spent = meeting row.limited refl spent
-
-  pub enqueued : (at : Option ℕ) → ForSome at IsMoment → IsNotSpent d.given (enqueue m row at d).0.given → IsGoodDraft w0 m (enqueue m row at d).0
-  enqueued None is spent = meeting row.limited refl spent
-  enqueued (Some at) is spent = at_moment at (is at refl) (nat_lt m at) refl spent
-
--- ---- many in turn
-
--- the numbers given rise
-pub record Rises (before after : Numbers) : Type 0 where
-  pub job : before.job ≤ after.job
-  pub pid : before.pid ≤ after.pid
-  pub generation : before.generation ≤ after.generation
-
-pub stays : (n : Numbers) → Rises n n
-stays n = record { job = omega arith; pid = omega arith; generation = omega arith }
-
-pub then_rises : (a b c : Numbers) → Rises a b → Rises b c → Rises a c
-then_rises a b c p q = record { job = up a.job b.job c.job p.job q.job; pid = up a.pid b.pid c.pid p.pid q.pid; generation = up a.generation b.generation c.generation p.generation q.generation }
+at_brings : (made claimed m : ℕ) (row : JobRow) (put : Put) (d : Draft) → Brings made claimed d → Brings (made + one (enqueue_at m row put d).1.id) claimed (enqueue_at m row put d).0
+at_brings made claimed m row Away d h = subst (λ n. Brings n claimed d) (still made) h
   where
-    up : (x y z : ℕ) → x ≤ y → y ≤ z → x ≤ z
-    up x y z p q = omega (arith, p, q)
+    still : (n : ℕ) → n ≡ n + 0
+    still n = omega arith
+at_brings made claimed m row (Ready permit) d h = brings_job made claimed m (Enqueue (numbered row d.given.job) (Ready permit)) d refl refl h
+at_brings made claimed m row (Scheduled at) d h = brings_job made claimed m (Enqueue (numbered row d.given.job) (Scheduled at)) d refl refl h
+at_brings made claimed m row (Blocked until) d h = brings_job made claimed m (Enqueue (numbered row d.given.job) (Blocked until)) d refl refl h
 
-above_rises : (n : ℕ) (o : Option ℕ) → n ≤ above n o
-above_rises n None = omega arith
-above_rises n (Some x) = omega arith
-
-pub noted_rises : (n : Numbers) (m : ℕ) (t : Transition) → Rises n (noted n m t)
-noted_rises n m t = record { job = above_rises n.job (job_named t); pid = above_rises n.pid (pid_named t); generation = above_rises n.generation (generation_named t) }
-
-pub enqueue_rises : (m : ℕ) (row : JobRow) (put : Put) (d : Draft) → Rises d.given (enqueue_at m row put d).0.given
-enqueue_rises m row Away d = stays d.given
-enqueue_rises m row (Ready permit) d = noted_rises d.given m (Enqueue (numbered row d.given.job) (Ready permit))
-enqueue_rises m row (Scheduled at) d = noted_rises d.given m (Enqueue (numbered row d.given.job) (Scheduled at))
-enqueue_rises m row (Blocked until) d = noted_rises d.given m (Enqueue (numbered row d.given.job) (Blocked until))
-
--- where nothing is spent in the end, nothing was in between, and nothing is from there on
-pub spent_between : (a b c : Numbers) → Rises a b → Rises b c → IsNotSpent a c → IsNotSpent a b × IsNotSpent b c
-spent_between a b c p q h = (
-  record { job = first a.job b.job c.job q.job h.job; pid = first a.pid b.pid c.pid q.pid h.pid; generation = first a.generation b.generation c.generation q.generation h.generation },
-  record { job = second a.job b.job c.job p.job h.job; pid = second a.pid b.pid c.pid p.pid h.pid; generation = second a.generation b.generation c.generation p.generation h.generation },
-)
-  where
-    first : (x y z : ℕ) → y ≤ z → (x < z → z ≤ 2 ^ 63 + 1) → x < y → y ≤ 2 ^ 63 + 1
-    first x y z up most rose = let more : x < z = omega (arith, rose, up) in let bound = most more in omega (arith, bound, up)
-
-    second : (x y z : ℕ) → x ≤ y → (x < z → z ≤ 2 ^ 63 + 1) → y < z → z ≤ 2 ^ 63 + 1
-    second x y z up most rose = most (omega (arith, rose, up))
+pub enqueue_brings : (made claimed m : ℕ) (row : JobRow) (at : Option ℕ) (d : Draft) → Brings made claimed d → Brings (made + one (enqueue m row at d).1.id) claimed (enqueue m row at d).0
+enqueue_brings made claimed m row at d h = at_brings made claimed m row (place_for d m at row.limited) d h

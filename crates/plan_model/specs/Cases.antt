@@ -1,5 +1,5 @@
 -- Cases of commands in scenes, as an independent model worked them out.
-use Rattle.std.specs.Prelude.{◌≡◌, ℕ, ℤ, List, [], ◌∷◌, Option, None, Some, Result, Ok, Err, codes, true, false}
+use Rattle.std.specs.Prelude.{◌≡◌, ℕ, ℤ, List, [], ◌∷◌, Option, None, Some, Result, codes, true, false}
 use Rattle.job_states.specs.declared.answer.Answer.{Answer}
 use Rattle.job_states.specs.declared.answer.Made.{Made}
 use Rattle.job_states.specs.declared.answer.Outcome.{Outcome}
@@ -26,8 +26,8 @@ use Rattle.queue_model.specs.World.{World, job}
 use Rattle.queue_model.specs.declared.Job.{Job}
 use Rattle.queue_model.specs.declared.Numbers.{Numbers}
 use Rattle.queue_model.specs.declared.Process.{Process}
-use Rattle.std.specs.Prelude.{Bool, map as mapped}
-use Rattle.plan_model.specs.Begins.{footprint, unless_locked}
+use Rattle.std.specs.Prelude.{Bool}
+use Rattle.plan_model.specs.Begins.{unless_locked}
 use Rattle.plan_model.specs.Plans.{Plan}
 use Rattle.plan_model.specs.Scenes.{Scene}
 
@@ -139,34 +139,21 @@ settings kept_max = record {
 
 -- ---- cases
 
--- with a footprint in the order of its rows
-pub record Planned : Type 0 where
-  pub tx : Transaction
-  pub rows : List (Row × Mode)
-  pub answer : Answer
-
-abbrev pub plan : Transaction → List (Row × Mode) → Answer → Planned
+abbrev pub plan : Transaction → List (Row × Mode) → Answer → Plan
 plan transaction rows answer = record { tx = transaction; rows = rows; answer = answer }
 
-abbrev open_plan : ℕ × Planned → ℕ × Plan
-open_plan e = (e.0, record { tx = e.1.tx; rows = e.1.rows; answer = e.1.answer })
-
-abbrev pub scene : World → (open_plans : List (ℕ × Planned)) → (given : Numbers) → (kept_max moment : ℕ) → Scene
-scene w open_plans given kept_max moment = record { book = record { world = w; open_plans = map.from_entries (mapped open_plan open_plans); given = given }; settings = settings kept_max; moment = moment }
-
-abbrev seen : Result Plan Refused → Result Planned Refused
-seen (Err refused) = Err refused
-seen (Ok p) = Ok (plan p.tx (footprint p.rows).entries p.answer)
+abbrev pub scene : World → (open_plans : List (ℕ × Plan)) → (given : Numbers) → (kept_max moment : ℕ) → Scene
+scene w open_plans given kept_max moment = record { book = record { world = w; open_plans = map.from_entries open_plans; given = given }; settings = settings kept_max; moment = moment }
 
 pub record Case : Type 0 where
   pub scene : Scene
   pub command : Command
-  pub comes_to : Result Planned Refused
+  pub comes_to : Result Plan Refused
 
-abbrev pub begins : Scene → Command → Result Planned Refused → Case
+abbrev pub begins : Scene → Command → Result Plan Refused → Case
 begins s c comes_to = record { scene = s; command = c; comes_to = comes_to }
 
 -- beginning each command comes to what is said
 abbrev pub AreBegun : (Scene → Command → Result Plan Refused) → List Case → Type 0
 AreBegun planned [] = Unit {0}
-AreBegun planned (c ∷ cs) = (seen (unless_locked c.scene.book (planned c.scene c.command)) ≡ c.comes_to) × AreBegun planned cs
+AreBegun planned (c ∷ cs) = (unless_locked c.scene.book (planned c.scene c.command) ≡ c.comes_to) × AreBegun planned cs

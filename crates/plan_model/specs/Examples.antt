@@ -119,7 +119,7 @@ polled id queue priority = record { active_id = codes "1"; class = codes "A"; en
 abbrev pub PollsInOrder : Type 0
 PollsInOrder = Comes (scene four_ready 1) (command.Poll 1 (codes "real_time" ∷ codes "back*" ∷ []) 3)
     (Claim 4 1 ∷ Claim 2 1 ∷ Claim 3 1 ∷ [])
-    (shared (row.Process 1) ∷ alone (row.Job 4) ∷ shared (row.Process 1) ∷ alone (row.Job 2) ∷ shared (row.Process 1) ∷ alone (row.Job 3) ∷ shared (row.Process 1) ∷ [])
+    (alone (row.Job 2) ∷ alone (row.Job 3) ∷ alone (row.Job 4) ∷ shared (row.Process 1) ∷ [])
     (answer.Polled (polled 4 (codes "real_time") (pos 5) ∷ polled 2 (codes "real_time") (pos 10) ∷ polled 3 (codes "backend") (pos 0) ∷ []))
 
 -- a paused queue is left out, and the process is held even where nothing is claimed
@@ -178,7 +178,7 @@ FirstIsReady = Comes (scene [] 0) (command.Enqueue b_new) (Enqueue (b_job 1) (Re
 abbrev pub SecondIsBlocked : Type 0
 SecondIsBlocked = Comes (scene [] 0) (command.Bulk (b_new ∷ b_new ∷ []))
     (Enqueue (b_job 1) (Ready (Some 1)) ∷ Enqueue (b_job 2) (Blocked 180_000_000) ∷ [])
-    (alone (row.Job 1) ∷ alone b_key ∷ alone (row.Job 2) ∷ alone b_key ∷ [])
+    (alone (row.Job 1) ∷ alone (row.Job 2) ∷ alone b_key ∷ [])
     (answer.Bulk (made 1 outcome.Ready ∷ made 2 outcome.Blocked ∷ []))
 
 abbrev b_claimed : List Transaction
@@ -187,7 +187,7 @@ b_claimed = worker ∷ at 0 (Enqueue (b_job 1) (Ready (Some 1)) ∷ Enqueue (b_j
 -- the end of the first lets the second go
 abbrev pub EndUnblocks : Type 0
 EndUnblocks = Comes (scene b_claimed 2) (command.Done 1 1) (Done 1 ∷ Unblock 2 1 ∷ [])
-    (alone (row.Job 1) ∷ alone b_key ∷ shared (row.Process 1) ∷ alone (row.Job 2) ∷ alone b_key ∷ [])
+    (alone (row.Job 1) ∷ alone (row.Job 2) ∷ alone b_key ∷ shared (row.Process 1) ∷ [])
     (answer.Done 1 (Some 2))
 
 -- a permit of an expired semaphore lets none go
@@ -228,7 +228,7 @@ tried id count = record (r_job id) { executions = count; counts = net_errors cou
 abbrev pub FirstWait : Type 0
 FirstWait = Comes (scene (worker ∷ at 0 (Enqueue (r_job 1) (Ready None) ∷ []) ∷ at 1 (Claim 1 1 ∷ []) ∷ []) 2) (command.Raised 1 1 (codes "NetError") [])
     (Done 1 ∷ Enqueue (tried 2 1) (Scheduled 3_000_002) ∷ [])
-    (alone (row.Job 1) ∷ shared (row.Process 1) ∷ alone (row.Job 2) ∷ [])
+    (alone (row.Job 1) ∷ alone (row.Job 2) ∷ shared (row.Process 1) ∷ [])
     (answer.Raised 1 (Some 2) outcome.Finished None)
 
 -- the fourth one is the last
@@ -249,14 +249,14 @@ PrunesInTime =
     Keeps (scene registered 300_000_999) command.Prune [] [] (answer.Pruned 0 None)
     × Keeps (scene registered 300_001_000) command.Prune
     (Fail 1 (codes "ProcessPrunedError") (codes "pruned: last beat 1000") None ∷ Deregister 1 ∷ [])
-    (alone (row.Job 1) ∷ shared (row.Process 1) ∷ alone (row.Process 1) ∷ alone (row.Process 1) ∷ [])
+    (alone (row.Job 1) ∷ alone (row.Process 1) ∷ [])
     (answer.Pruned 1 (Some 1))
 
 -- the first due job takes the key's permit, and the second waits
 abbrev pub DispatchMeetsSemaphore : Type 0
 DispatchMeetsSemaphore = Keeps (scene (at 0 (Enqueue (b_job 1) (Scheduled 5) ∷ Enqueue (b_job 2) (Scheduled 4) ∷ []) ∷ []) 5) command.Dispatch
     (Dispatch 2 (Ready (Some 1)) ∷ Dispatch 1 (Blocked 180_000_005) ∷ [])
-    (alone (row.Job 2) ∷ alone b_key ∷ alone (row.Job 1) ∷ alone b_key ∷ [])
+    (alone (row.Job 1) ∷ alone (row.Job 2) ∷ alone b_key ∷ [])
     (answer.Count 2)
 
 -- a lapsed semaphore goes, and what waited for it starts a new one

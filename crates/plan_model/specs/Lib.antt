@@ -4,6 +4,8 @@ pub mod Cases
 pub mod Counts
 pub mod Drafts
 pub mod Examples
+pub mod GoodBook
+pub mod GoodDraft
 pub mod GoodScene
 pub mod JobCases
 pub mod JobCommands
@@ -11,6 +13,7 @@ pub mod Orders
 pub mod Planned
 pub mod Plans
 pub mod Refusals
+pub mod Rows
 pub mod Scenes
 pub mod UpkeepCases
 pub mod UpkeepCommands

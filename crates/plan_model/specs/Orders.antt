@@ -20,11 +20,12 @@ priority_cmp a b = ordering_then (int_cmp a.0 b.0) (nat_cmp a.1 b.1)
 abbrev pub place_of : Job → ℤ × ℕ
 place_of j = (j.row.priority, j.row.id)
 
+-- each at its place
+abbrev pub placed : List Job → finite.Map priority_cmp Job
+placed jobs = finite.from_entries (map (λ j. (place_of j, j)) jobs)
+
 abbrev pub in_order : List Job → List Job
 in_order jobs = finite.values (placed jobs)
-  where
-    placed : List Job → finite.Map priority_cmp Job
-    placed jobs = finite.from_entries (map (λ j. (place_of j, j)) jobs)
 
 abbrev pub first_of : {A : Type 0} → List A → Option A
 first_of [] = None

@@ -5,6 +5,7 @@ use Rattle.job_states.specs.declared.answer.Refused.{Refused}
 use Rattle.plan_model.specs.Drafts.{Draft}
 use Rattle.plan_model.specs.Plans.{Plan}
 use Rattle.plan_model.specs.Refusals.{first_met, numbers_spent}
+use Rattle.plan_model.specs.Rows.{in_order}
 use Rattle.plan_model.specs.Scenes.{Scene}
 
 -- what a command does where it isn't refused
@@ -20,7 +21,7 @@ abbrev pub answering : {A : Type 0} → Draft × A → (A → Answer) → Drafte
 answering e answer = drafted e.0 (answer e.1)
 
 abbrev pub plan_with : Scene → Drafted → Plan
-plan_with s made = record { tx = record { moment = s.moment; steps = made.draft.steps }; rows = made.draft.rows; answer = made.answer }
+plan_with s made = record { tx = record { moment = s.moment; steps = made.draft.steps }; rows = in_order made.draft.rows; answer = made.answer }
 
 abbrev pub unless_met : Option Refused → Plan → Result Plan Refused
 unless_met None plan = Ok plan
