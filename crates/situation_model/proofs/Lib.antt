@@ -1,0 +1,10 @@
+mod Begun
+mod Ended
+mod Made
+mod Numbered
+mod NumberedCommands
+mod Moments
+mod Ranges
+mod Replays
+mod Stands
+mod Stays

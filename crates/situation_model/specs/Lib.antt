@@ -1,0 +1,4 @@
+pub mod Examples
+pub mod GoodSituation
+pub mod Situations
+pub mod Steps
