@@ -1,0 +1,5 @@
+mod Above
+mod Places
+mod Selections
+mod SortedNames
+mod Steps
