@@ -8,7 +8,7 @@ use Rattle.http_wire.specs.Reply.{is_reply_status}
 use Rattle.http_wire.specs.declared.request.Request.{Request}
 use Rattle.queue_http.specs.declared.routes.Ask.{Ask}
 use Rattle.queue_http.specs.declared.routes.Ask.TheVariants.{Enqueue, Reply}
-use Rattle.queue_http.specs.Replies.{envelope_fault, not_built}
+use Rattle.queue_replies.specs.Faults.{envelope_fault, not_built}
 
 -- the job of an envelope, or the reply to its first fault
 abbrev pub enqueue_of : Result NewJob EnvelopeFault → Ask

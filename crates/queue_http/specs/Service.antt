@@ -15,7 +15,9 @@ use Rattle.http_wire.specs.declared.reply.Reply.{Reply}
 use Rattle.http_wire.specs.declared.request.Request.{Request}
 use Rattle.queue_http.specs.declared.routes.Ask.{Ask}
 use Rattle.queue_http.specs.declared.routes.Ask.TheVariants as ask
-use Rattle.queue_http.specs.Replies.{created, no_memory, unknown_class}
+use Rattle.queue_replies.specs.Answers.{created}
+use Rattle.queue_replies.specs.Faults.{no_memory}
+use Rattle.queue_replies.specs.Refusals.{unknown_class}
 use Rattle.queue_http.specs.Routes.{ask_of}
 
 -- the jobs, and the moments that the clock will give, where it exposes them

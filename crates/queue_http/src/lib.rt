@@ -2,12 +2,11 @@
 #![tactic(auto)]
 
 mod job_list;
-mod replies;
 mod routes;
 mod service;
 #[cfg(test)]
 mod tests;
 
 pub use job_list::JobList;
-pub use replies::fault_reply;
+pub use queue_replies::fault_reply;
 pub use service::answer;

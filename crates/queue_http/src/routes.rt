@@ -3,10 +3,10 @@ ghost use Rattle.std.specs.Prelude.{◌≡◌, IfOk};
 ghost use Rattle.job_envelope.specs.Envelope.{envelope_of};
 ghost use Rattle.queue_http.specs.Routes as spec;
 
-use crate::replies::{envelope_fault, not_built};
 use http_wire::{Reply, Request};
 use job_envelope::Envelope;
 use job_states::{Bytes, NewJob, NoMemory};
+use queue_replies::{envelope_fault, not_built};
 use std::alloc::Global;
 
 /// What a request asks for.

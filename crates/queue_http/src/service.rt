@@ -1,15 +1,18 @@
 ghost use Rattle.std.specs.Prelude.{◌≡◌, IsTrue, IfOk, OnErr};
 ghost use Rattle.http_wire.specs.Reply.{is_reply_status};
+ghost use Rattle.queue_replies.specs.Refusals as refusals;
 ghost use Rattle.queue_http.specs.Routes as routes;
 ghost use Rattle.queue_http.specs.Service as spec;
 ghost use Rattle.queue_http.specs.Service.{service, Answers, ComesTo, Does, MayTakeMoment};
 
 use crate::JobList;
-use crate::replies::{created, no_memory, unknown_class};
 use crate::routes::{Ask, ask_of};
 use http_wire::{Reply, Request};
-use job_states::{JobId, JobRow, Moment, NewJob, NoMemory, Outcome, State};
+use job_states::{
+    Answer, JobId, JobRow, Made, Moment, Name, NewJob, NoMemory, Outcome, Refused, State,
+};
 use queue_config::Config;
+use queue_replies::{reply_memory, reply_of, reply_refused};
 use sq_outside::Clock;
 use std::alloc::Global;
 
@@ -28,7 +31,7 @@ pub fn answer<C: Clock>(
 {
     match try_answer(alloc, config, jobs, clock, request) {
         Ok(reply) => reply,
-        Err(NoMemory) => no_memory(),
+        Err(NoMemory) => reply_memory(),
     }
 }
 
@@ -64,9 +67,16 @@ fn enqueue(
     ensures stays { OnErr result (jobs.new ≡ jobs.old) }
 {
     match config.class(&job.class) {
-        None => unknown_class(alloc, 0, &job.class),
+        None => unknown_class(alloc, job.class),
         Some(_) => append(alloc, jobs, now, job),
     }
+}
+
+fn unknown_class(alloc: Global, class: Name) -> Result<Reply, NoMemory>
+    ensures reply { IfOk result (λ reply. reply ≡ refusals.unknown_class 0 class) }
+    ensures status { IfOk result (λ reply. IsTrue (is_reply_status reply.status)) }
+{
+    reply_refused(alloc, &Refused::UnknownClass { index: 0, class })
 }
 
 // What can fail comes first, so that an `Err` leaves the jobs as they were.
@@ -76,7 +86,11 @@ fn append(alloc: Global, jobs: &mut JobList, now: Moment, job: NewJob) -> Result
 {
     let id = jobs.jobs.len() as JobId + 1;
     let (state, outcome) = place_at(job.at, now);
-    let reply = created(alloc, id, outcome)?;
+    let made = Made {
+        id: Some(id),
+        state: outcome,
+    };
+    let reply = reply_of(alloc, &Answer::Enqueued(made))?;
     jobs.jobs.reserve(1)?;
     match jobs.jobs.push((row_of(id, job), state)) {
         Ok(()) => Ok(reply),

@@ -1,6 +1,6 @@
-use crate::{JobList, answer, fault_reply};
+use crate::{JobList, answer};
 use http::Method;
-use http_wire::{Refusal, Reply, Request};
+use http_wire::{Reply, Request};
 use job_states::{Bytes, State, Text};
 use queue_config::Config;
 use sq_outside::{Clock, MemClock};
@@ -119,45 +119,20 @@ fn a_class_that_the_settings_lack_is_refused(rt: HostRuntime) -> Result<(), Fail
 }
 
 #[test]
-fn faults_of_an_envelope_are_reported_and_change_nothing(rt: HostRuntime) -> Result<(), Fail> {
+fn a_body_with_a_fault_changes_nothing(rt: HostRuntime) -> Result<(), Fail> {
     let longest = padded(rt.alloc(), 8192)?;
     let longer = padded(rt.alloc(), 8193)?;
     let mut jobs = JobList::new(rt.alloc());
     let mut clock = MemClock::new(vec![in rt.alloc(); 1, 2, 3]?);
-    let reply = post(rt.alloc(), &mut jobs, &mut clock, &longest)?;
-    expect(&rt, &reply, 201, r#"{"id":1,"state":"ready"}"#);
-    let faults: [(&[u8], u16, &str); 6] = [
-        (
-            &longer,
-            413,
-            r#"{"error":"too_long","index":0,"length":8193}"#,
-        ),
-        (b"[]", 400, r#"{"error":"not_json","index":0}"#),
-        (
-            br#"{"job_class":"A"}"#,
-            400,
-            r#"{"error":"missing","index":0,"member":"job_id"}"#,
-        ),
-        (
-            br#"{"job_class":"A","job_id":"1","queue_name":7}"#,
-            400,
-            r#"{"error":"wrong_kind","index":0,"member":"queue_name"}"#,
-        ),
-        (
-            br#"{"job_class":"A","job_id":"1","scheduled_at":"soon"}"#,
-            400,
-            r#"{"error":"date_refused","index":0,"member":"scheduled_at"}"#,
-        ),
-        (
-            br#"{"job_class":"A","job_id":"1","arguments":[1.5]}"#,
-            422,
-            r#"{"error":"float_argument","index":0}"#,
-        ),
-    ];
-    for (body, status, text) in faults {
-        let reply = post(rt.alloc(), &mut jobs, &mut clock, body)?;
-        expect(&rt, &reply, status, text);
-    }
+    let accepted = post(rt.alloc(), &mut jobs, &mut clock, &longest)?;
+    expect(&rt, &accepted, 201, r#"{"id":1,"state":"ready"}"#);
+    let refused = post(rt.alloc(), &mut jobs, &mut clock, &longer)?;
+    expect(
+        &rt,
+        &refused,
+        413,
+        r#"{"error":"too_long","index":0,"length":8193}"#,
+    );
     assert_eq!(rt; jobs.jobs().len(), 1);
     assert_eq!(rt; clock.now(), 2);
     Ok(())
@@ -183,28 +158,5 @@ fn numbers_count_up_and_other_requests_are_not_built(rt: HostRuntime) -> Result<
     }
     assert_eq!(rt; jobs.jobs().len(), 2);
     assert_eq!(rt; clock.now(), 3);
-    Ok(())
-}
-
-#[test]
-fn a_refused_stream_is_answered_with_its_place(rt: HostRuntime) -> Result<(), Fail> {
-    const LONG: Refusal = Refusal::TooLarge { len: 1_048_577 };
-    for (at, refusal, status, text) in [
-        (0, Refusal::Bad, 400, r#"{"at":0,"error":"bad_request"}"#),
-        (
-            74,
-            LONG,
-            413,
-            r#"{"at":74,"error":"too_large","length":1048577}"#,
-        ),
-        (
-            148,
-            Refusal::Unsupported,
-            501,
-            r#"{"at":148,"error":"unsupported"}"#,
-        ),
-    ] {
-        expect(&rt, &fault_reply(rt.alloc(), at, refusal)?, status, text);
-    }
     Ok(())
 }

@@ -1,0 +1,5 @@
+pub mod BodyLemmas
+pub mod EachLemmas
+pub mod NumberLemmas
+pub mod ShapeLemmas
+pub mod WayLemmas

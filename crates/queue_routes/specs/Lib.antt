@@ -1,0 +1,4 @@
+pub mod Ask
+pub mod Bodies
+pub mod Routes
+pub mod Ways
