@@ -5,7 +5,7 @@ mod AllowedEnds
 mod AllowedFirst
 mod AllowedMoves
 mod AllowedOthers
-mod AllowedSeen
+pub mod AllowedSeen
 mod Apart
 pub mod BooksFree
 mod BooksGiven

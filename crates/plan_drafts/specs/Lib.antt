@@ -1,0 +1,4 @@
+pub mod Drafting
+pub mod Left
+pub mod Made
+pub mod Pushes
