@@ -9,8 +9,6 @@ use Rattle.job_states.specs.Ranges.{is_number, is_message, is_count, are_counts,
 use Rattle.job_states.specs.Ranges as ranges
 use Rattle.job_states.specs.States.{stage_of, is_claimed, is_failed}
 use Rattle.job_states.specs.declared.answer.Answer.TheVariants as answer
-use Rattle.job_states.specs.declared.answer.Made.{Made}
-use Rattle.job_states.specs.declared.answer.Outcome.TheVariants as outcome
 use Rattle.job_states.specs.declared.answer.Refused.{Refused}
 use Rattle.job_states.specs.declared.answer.Refused.TheVariants.{SemaphoreClosed}
 use Rattle.job_states.specs.declared.command.Command.TheVariants as command
@@ -24,16 +22,15 @@ use Rattle.job_states.specs.declared.transition.Transition.TheVariants.{Done, Fa
 use Rattle.queue_config.specs.Retry.{decision_of}
 use Rattle.queue_config.specs.declared.retry.Act.{Act}
 use Rattle.queue_config.specs.declared.retry.Act.TheVariants as act
-use Rattle.queue_config.specs.declared.retry.Decision.{Decision}
 use Rattle.queue_model.specs.Chain.{◌>>=◌}
 use Rattle.queue_model.specs.Map as finite
 use Rattle.queue_model.specs.declared.Job.{Job}
 use Rattle.queue_model.proofs.Steps.{same_Some}
-use Rattle.plan_model.specs.Drafts.{Draft, begin, end, enqueue, meets, outcome_of}
+use Rattle.plan_model.specs.Drafts.{Draft, begin, end, meets, outcome_of}
 use Rattle.plan_model.specs.GoodBook.{MayOpen}
 use Rattle.plan_model.specs.GoodScene.{IsGoodScene}
-use Rattle.plan_model.specs.JobCommands.{job_plan, refusals, does, of_claim, raise, performed, message_of, cut_at, retry, with_job}
-use Rattle.plan_model.specs.Planned.{Drafted, drafted, answering, planned}
+use Rattle.plan_model.specs.JobCommands.{job_plan, refusals, does, of_claim, raise, raise_by, row_after, failing, message_of, cut_at, retry, with_job}
+use Rattle.plan_model.specs.Planned.{Drafted, drafted, planned}
 use Rattle.plan_model.specs.Plans.{Plan, jobs_named, jobs_handed}
 use Rattle.plan_model.specs.Refusals.{no_such_job, wrong_state, semaphore_closed, is_shut_out, refuse, numbers_spent}
 use Rattle.plan_model.specs.Scenes.{Scene}
@@ -111,25 +108,11 @@ pub record IsAnswered (s : Scene) (made : Drafted) : Type 0 where
   pub handed : jobs_handed made.answer ≡ 0
 
 module _ (s : Scene) (good : IsGoodScene s) (error message : List ℕ) (name : is_name error ≡ true) (j : Job) (found : finite.get s.book.world.jobs j.row.id ≡ Some j) (claimed : is_claimed (Some (stage_of j.state)) ≡ true) where
-  abbrev decision : Decision
-  decision = decision_of s.settings j.row.class error j.row.counts
-
   abbrev again : JobRow
-  again = performed j.row (min 65_535 (j.row.executions + 1)) decision s
+  again = row_after s error j
 
-  abbrev failing : Transition
-  failing = Fail j.row.id error (message_of message) (Some (record { executions = again.executions; counts = again.counts }))
-
-  abbrev by_end : Transition → Draft × Option ℕ
-  by_end t = end s.moment j.row.id t (begin s)
-
-  abbrev again_after : ℕ → Draft × Made
-  again_after wait = enqueue s.moment again (Some (later_moment s.moment wait)) (by_end (Done j.row.id)).0
-
-  abbrev act_then : Act → Drafted
-  act_then act.Fail = drafted (by_end failing).0 (answer.Raised j.row.id None outcome.Failed (by_end failing).1)
-  act_then act.Discard = drafted (by_end (Done j.row.id)).0 (answer.Raised j.row.id None outcome.Finished (by_end (Done j.row.id)).1)
-  act_then (act.Retry wait) = answering (again_after wait) (λ copy. answer.Raised j.row.id copy.id outcome.Finished (by_end (Done j.row.id)).1)
+  abbrev done : Draft
+  done = (end s.moment j.row.id (Done j.row.id) (begin s)).0
 
   number : is_number j.row.id ≡ true
   number = (good.book.world.jobs j.row.id j found).number.0
@@ -140,7 +123,7 @@ module _ (s : Scene) (good : IsGoodScene s) (error message : List ℕ) (name : i
   counts : are_counts again.counts ≡ true
   counts = counts_fit s.settings good.settings j.row.class error j.row.counts (row_counts j.row row)
 
-  finished : Holds s (IsSound s 0) (by_end (Done j.row.id)).0
+  finished : Holds s (IsSound s 0) done
   finished = one_end s good j.row.id (Done j.row.id) refl refl number (allowed.done s.moment j.row.id (begin s) j found claimed)
 
   abbrev counters : Option Counters
@@ -152,27 +135,27 @@ module _ (s : Scene) (good : IsGoodScene s) (error message : List ℕ) (name : i
   report : (is_name error && is_message (message_of message)) ≡ true
   report = and_from (is_name error) (is_message (message_of message)) name (message_fits message)
 
-  failing_fits : is_in_range failing ≡ true
+  failing_fits : is_in_range (failing s error message j) ≡ true
   failing_fits = and_from (is_number j.row.id && is_name error && is_message (message_of message)) (are_counters counters)
       (and_from (is_number j.row.id && is_name error) (is_message (message_of message)) (and_from (is_number j.row.id) (is_name error) number name) (message_fits message)) counters_fit
 
-  acted : (a : Act) → IsAnswered s (act_then a)
+  acted : (a : Act) → IsAnswered s (raise_by s error message j (begin s) a)
   acted act.Fail = record {
-    draft = one_end s good j.row.id failing (and_from (is_name error && is_message (message_of message)) (are_counters counters) report counters_fit) refl failing_fits
+    draft = one_end s good j.row.id (failing s error message j) (and_from (is_name error && is_message (message_of message)) (are_counters counters) report counters_fit) refl failing_fits
         (allowed.fail s.moment j.row.id (begin s) j found error (message_of message) counters claimed);
     handed = refl;
   }
   acted act.Discard = record { draft = finished; handed = refl }
   acted (act.Retry wait) = record {
-    draft = subst (λ n. Holds s (IsSound s n) (again_after wait).0) (zero-add (jobs_named (act_then (act.Retry wait)).answer))
-        (one_job s good 0 again (Some (later_moment s.moment wait)) (by_end (Done j.row.id)).0
+    draft = subst (λ n. Holds s (IsSound s n) (raise_by s error message j (begin s) (act.Retry wait)).draft) (zero-add (jobs_named (raise_by s error message j (begin s) (act.Retry wait)).answer))
+        (one_job s good 0 again (Some (later_moment s.moment wait)) done
         (row_fits j.row (min 65_535 (j.row.executions + 1)) again.counts row (count_small (j.row.executions + 1)) counts)
         (λ t e. subst IsMoment (same_Some (later_moment s.moment wait) t e) (later_is s.moment wait)) finished);
     handed = refl;
   }
 
   pub raised : IsAnswered s (raise s error message j (begin s))
-  raised = acted decision.act
+  raised = acted (decision_of s.settings j.row.class error j.row.counts).act
 
 -- ---- a job that is retried
 

@@ -1,5 +1,5 @@
 -- How many transitions the plan of each command has.
-use Rattle.std.proofs.Common.{◌≡◌, ◌≤◌, ◌+◌, ℕ, min, Bool, true, false, cond, nat_lt, List, [], ◌∷◌, length, take, map, filter, fold, Option, None, Some, Ok, refl, subst, arith}
+use Rattle.std.proofs.Common.{◌≡◌, ◌≤◌, ◌+◌, ℕ, Bool, true, false, cond, nat_lt, List, [], ◌∷◌, length, take, map, filter, fold, Option, None, Some, Ok, refl, subst, arith}
 use Rattle.std.proofs.lemmas.List.{length-append}
 use Rattle.std.proofs.lemmas.List.Sums.{length-filter}
 use Rattle.std.specs.Prelude.{codes}
@@ -7,7 +7,6 @@ use Rattle.job_states.specs.Moment.{later_moment}
 use Rattle.job_states.specs.States.{is_failed}
 use Rattle.job_states.specs.declared.answer.Answer.TheVariants as answer
 use Rattle.job_states.specs.declared.answer.Made.{Made}
-use Rattle.job_states.specs.declared.answer.Outcome.TheVariants as outcome
 use Rattle.job_states.specs.declared.answer.Refused.{Refused}
 use Rattle.job_states.specs.declared.command.Command.{Command}
 use Rattle.job_states.specs.declared.command.Command.TheVariants as command
@@ -23,7 +22,6 @@ use Rattle.semaphores.specs.Semaphore.{is_closed}
 use Rattle.queue_config.specs.Retry.{decision_of}
 use Rattle.queue_config.specs.declared.retry.Act.{Act}
 use Rattle.queue_config.specs.declared.retry.Act.TheVariants as act
-use Rattle.queue_config.specs.declared.retry.Decision.{Decision}
 use Rattle.queue_model.specs.Map as finite
 use Rattle.queue_model.specs.World.{is_claimed_by}
 use Rattle.queue_model.specs.declared.Job.{Job}
@@ -32,9 +30,9 @@ use Rattle.row_locks.proofs.Membership.{Contains-from_map, Contains-from_filter}
 use Rattle.plan_model.specs.Drafts.{Draft, begin, push, holding, end, enqueue, enqueue_at, place_for, meets, generation_at, outcome_of, and_case, each_free}
 use Rattle.plan_model.specs.GoodScene.{IsGoodScene, IsWithinRanges}
 use Rattle.plan_model.specs.JobCommands as jobs
-use Rattle.plan_model.specs.JobCommands.{job_plan, enqueue_new, and_made, enqueue_all, claim_all, message_of, performed, raise, with_job}
+use Rattle.plan_model.specs.JobCommands.{job_plan, enqueue_new, and_made, failing, raise, raise_by, row_after, with_job}
 use Rattle.plan_model.specs.Orders.{on_offer, first_of}
-use Rattle.plan_model.specs.Planned.{Drafted, drafted, answering, planned}
+use Rattle.plan_model.specs.Planned.{Drafted, drafted, planned}
 use Rattle.plan_model.specs.Plans.{Plan}
 use Rattle.plan_model.specs.Refusals.{is_shut_out}
 use Rattle.plan_model.specs.Scenes.{Scene, are_free}
@@ -134,38 +132,18 @@ bulk_size s (new ∷ news) e =
     omega (arith, first, rest)
 
 module _ (s : Scene) (error message : List ℕ) (j : Job) where
-  abbrev decision : Decision
-  decision = decision_of s.settings j.row.class error j.row.counts
-
-  abbrev again : JobRow
-  again = performed j.row (min 65_535 (j.row.executions + 1)) decision s
-
-  abbrev ended : Draft × Option ℕ
-  ended = end s.moment j.row.id (Done j.row.id) (begin s)
-
-  abbrev failed : Draft × Option ℕ
-  failed = end s.moment j.row.id (Fail j.row.id error (message_of message) (Some (record { executions = again.executions; counts = again.counts }))) (begin s)
-
-  abbrev copied : ℕ → Draft × Made
-  copied wait = enqueue s.moment again (Some (later_moment s.moment wait)) ended.0
-
-  abbrev act_then : Act → Drafted
-  act_then act.Fail = drafted failed.0 (answer.Raised j.row.id None outcome.Failed failed.1)
-  act_then act.Discard = drafted ended.0 (answer.Raised j.row.id None outcome.Finished ended.1)
-  act_then (act.Retry wait) = answering (copied wait) (λ copy. answer.Raised j.row.id copy.id outcome.Finished ended.1)
-
-  acted : (a : Act) → size (act_then a).draft ≤ 2000
+  acted : (a : Act) → size (raise_by s error message j (begin s) a).draft ≤ 2000
   acted act.Fail =
-      let two = end_size s.moment j.row.id (Fail j.row.id error (message_of message) (Some (record { executions = again.executions; counts = again.counts }))) (begin s) in
+      let two = end_size s.moment j.row.id (failing s error message j) (begin s) in
       omega (arith, two)
   acted act.Discard = let two = end_size s.moment j.row.id (Done j.row.id) (begin s) in omega (arith, two)
   acted (act.Retry wait) =
       let two = end_size s.moment j.row.id (Done j.row.id) (begin s) in
-      let one = enqueue_size s.moment again (Some (later_moment s.moment wait)) ended.0 in
+      let one = enqueue_size s.moment (row_after s error j) (Some (later_moment s.moment wait)) (end s.moment j.row.id (Done j.row.id) (begin s)).0 in
       omega (arith, two, one)
 
   raise_size : size (raise s error message j (begin s)).draft ≤ 2000
-  raise_size = acted decision.act
+  raise_size = acted (decision_of s.settings j.row.class error j.row.counts).act
 
 with_job_size : (s : Scene) (id : ℕ) (f : Job → Drafted) → ((j : Job) → size (f j).draft ≤ 2000) → size (with_job s id f).draft ≤ 2000
 with_job_size s id f each = by (finite.get s.book.world.jobs id)

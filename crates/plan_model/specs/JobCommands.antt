@@ -17,6 +17,7 @@ use Rattle.job_states.specs.declared.job.Stage.{Stage}
 use Rattle.job_states.specs.declared.job.Stage.TheVariants as stage
 use Rattle.job_states.specs.declared.row.Mode.TheVariants.{Shared, Alone}
 use Rattle.job_states.specs.declared.row.Row.TheVariants as row
+use Rattle.job_states.specs.declared.transition.Transition.{Transition}
 use Rattle.job_states.specs.declared.transition.Transition.TheVariants.{Claim, Done, Fail, Release, Retry, Discard, Pause, Resume}
 use Rattle.queue_config.specs.declared.retry.Act.{Act}
 use Rattle.queue_config.specs.declared.retry.Act.TheVariants as act
@@ -117,28 +118,23 @@ message_of text = if nat_le (length text) 1024 then text else take (cut_at 1024 
 abbrev pub performed : JobRow → (executions : ℕ) → Decision → Scene → JobRow
 performed r executions decision s = record r { executions = executions; counts = counts_after s.settings r.class decision r.counts }
 
+-- the job's row after the error, by what is decided of it
+abbrev pub row_after : Scene → (error : List ℕ) → Job → JobRow
+row_after s error j = performed j.row (min 65_535 (j.row.executions + 1)) (decision_of s.settings j.row.class error j.row.counts) s
+
+abbrev pub failing : Scene → (error message : List ℕ) → Job → Transition
+failing s error message j = Fail j.row.id error (message_of message) (Some (record { executions = (row_after s error j).executions; counts = (row_after s error j).counts }))
+
+-- what the error leads to where this is decided
+abbrev pub raise_by : Scene → (error message : List ℕ) → Job → Draft → Act → Drafted
+raise_by s error message j d act.Fail = let failed = end s.moment j.row.id (failing s error message j) d in drafted failed.0 (answer.Raised j.row.id None outcome.Failed failed.1)
+raise_by s error message j d act.Discard = let ended = end s.moment j.row.id (Done j.row.id) d in drafted ended.0 (answer.Raised j.row.id None outcome.Finished ended.1)
+raise_by s error message j d (act.Retry wait) =
+    let ended = end s.moment j.row.id (Done j.row.id) d in
+    answering (enqueue s.moment (row_after s error j) (Some (later_moment s.moment wait)) ended.0) (λ copy. answer.Raised j.row.id copy.id outcome.Finished ended.1)
+
 abbrev pub raise : Scene → (error message : List ℕ) → Job → Draft → Drafted
-raise s error message j d = by decision.act
-  where
-    decision : Decision
-    decision = decision_of s.settings j.row.class error j.row.counts
-
-    again : JobRow
-    again = performed j.row (min 65_535 (j.row.executions + 1)) decision s
-
-    ended : Draft × Option ℕ
-    ended = end s.moment j.row.id (Done j.row.id) d
-
-    failed : Draft × Option ℕ
-    failed = end s.moment j.row.id (Fail j.row.id error (message_of message) (Some (record { executions = again.executions; counts = again.counts }))) d
-
-    copied : ℕ → Draft × Made
-    copied wait = enqueue s.moment again (Some (later_moment s.moment wait)) ended.0
-
-    by : Act → Drafted
-    by act.Fail = drafted failed.0 (answer.Raised j.row.id None outcome.Failed failed.1)
-    by act.Discard = drafted ended.0 (answer.Raised j.row.id None outcome.Finished ended.1)
-    by (act.Retry wait) = answering (copied wait) (λ copy. answer.Raised j.row.id copy.id outcome.Finished ended.1)
+raise s error message j d = raise_by s error message j d (decision_of s.settings j.row.class error j.row.counts).act
 
 -- ---- many jobs
 

@@ -1,16 +1,12 @@
 -- Each command makes jobs and processes with numbers that weren't given before, so none of them is in the world.
-use Rattle.std.proofs.Common.{◌≡◌, ◌≤◌, ◌<◌, ◌+◌, ℕ, Bool, true, false, cond, List, [], ◌∷◌, All, Contains, Option, None, Some, Result, Ok, map, filter, fold, take, min, codes, is_some, ap, sym, refl, subst, arith}
+use Rattle.std.proofs.Common.{◌≡◌, ◌≤◌, ℕ, Bool, true, false, cond, List, [], ◌∷◌, All, Option, None, Some, Ok, map, filter, take, codes, is_some, ap, sym, refl, subst, arith}
 use Rattle.std.proofs.lemmas.Bool.{true≢false}
 use Rattle.std.proofs.lemmas.List.Elements.{All-contains, All-nil}
 use Rattle.job_states.specs.Moment.{later_moment}
 use Rattle.job_states.specs.States.{is_failed}
 use Rattle.job_states.specs.declared.answer.Answer.TheVariants as answer
-use Rattle.job_states.specs.declared.answer.Made.{Made}
-use Rattle.job_states.specs.declared.answer.Outcome.TheVariants as outcome
-use Rattle.job_states.specs.declared.answer.Refused.{Refused}
 use Rattle.job_states.specs.declared.command.Command.{Command}
 use Rattle.job_states.specs.declared.command.Command.TheVariants as command
-use Rattle.job_states.specs.declared.job.JobRow.{JobRow}
 use Rattle.job_states.specs.declared.row.Mode.TheVariants.{Alone, Shared}
 use Rattle.job_states.specs.declared.row.Row.TheVariants as row_of
 use Rattle.job_states.specs.declared.transition.Transition.{Transition}
@@ -18,23 +14,21 @@ use Rattle.job_states.specs.declared.transition.Transition.TheVariants.{Beat, Cl
 use Rattle.semaphores.specs.Semaphore.{is_closed}
 use Rattle.queue_config.specs.declared.retry.Act.{Act}
 use Rattle.queue_config.specs.declared.retry.Act.TheVariants as act
-use Rattle.queue_config.specs.declared.retry.Decision.{Decision}
 use Rattle.queue_config.specs.Retry.{decision_of}
 use Rattle.queue_model.specs.Map as finite
 use Rattle.queue_model.specs.declared.Job.{Job}
 use Rattle.queue_model.specs.declared.Process.{Process}
 use Rattle.queue_model.proofs.Steps.{same_Some}
-use Rattle.plan_model.specs.Books.{Book}
-use Rattle.plan_model.specs.Drafts.{Draft, begin, each_free, end, enqueue, generation_at, holding, meets, outcome_of, push}
+use Rattle.plan_model.specs.Drafts.{Draft, begin, each_free, end, generation_at, holding, meets, outcome_of, push}
 use Rattle.plan_model.specs.GoodBook.{IsGoodBook}
 use Rattle.plan_model.specs.JobCommands as jobs
 use Rattle.plan_model.specs.Orders.{first_of, on_offer}
-use Rattle.plan_model.specs.Planned.{Drafted, answering, drafted}
+use Rattle.plan_model.specs.Planned.{Drafted, drafted}
 use Rattle.plan_model.specs.Plans.{Plan}
 use Rattle.plan_model.specs.Refusals.{is_shut_out}
 use Rattle.plan_model.specs.Scenes.{Scene, are_free}
 use Rattle.plan_model.specs.UpkeepCommands as upkeep
-use Rattle.situation_model.specs.GoodSituation.{IsNewTo, Makes, job_made, pid_made}
+use Rattle.situation_model.specs.GoodSituation.{IsNewTo, job_made, pid_made}
 use Rattle.situation_model.specs.Situations.{command_plan, is_about_jobs}
 use Rattle.situation_model.proofs.Moments.{planned_is}
 use Rattle.situation_model.proofs.Numbered.{IsAtLeast, IsNumbered, always, each, ended, enqueued, enqueued_all, folded, held, picked, pushed, unless}
@@ -69,33 +63,13 @@ module _ (s : Scene) where
       by (Some j) = keeps j
 
   module _ (error message : List ℕ) (j : Job) where
-    abbrev decision : Decision
-    decision = decision_of s.settings j.row.class error j.row.counts
-
-    abbrev again : JobRow
-    again = jobs.performed j.row (min 65_535 (j.row.executions + 1)) decision s
-
-    abbrev failing : Transition
-    failing = Fail j.row.id error (jobs.message_of message) (Some (record { executions = again.executions; counts = again.counts }))
-
-    abbrev by_end : Transition → Draft × Option ℕ
-    by_end t = end s.moment j.row.id t (begin s)
-
-    abbrev again_after : ℕ → Draft × Made
-    again_after wait = enqueue s.moment again (Some (later_moment s.moment wait)) (by_end (Done j.row.id)).0
-
-    abbrev act_then : Act → Drafted
-    act_then act.Fail = drafted (by_end failing).0 (answer.Raised j.row.id None outcome.Failed (by_end failing).1)
-    act_then act.Discard = drafted (by_end (Done j.row.id)).0 (answer.Raised j.row.id None outcome.Finished (by_end (Done j.row.id)).1)
-    act_then (act.Retry wait) = answering (again_after wait) (λ copy. answer.Raised j.row.id copy.id outcome.Finished (by_end (Done j.row.id)).1)
-
-    acted : (a : Act) → Kept (act_then a).draft
-    acted act.Fail = last j.row.id failing (begin s) tt base
+    acted : (a : Act) → Kept (jobs.raise_by s error message j (begin s) a).draft
+    acted act.Fail = last j.row.id (jobs.failing s error message j) (begin s) tt base
     acted act.Discard = last j.row.id (Done j.row.id) (begin s) tt base
-    acted (act.Retry wait) = enqueued s.book.given s.moment again (Some (later_moment s.moment wait)) (by_end (Done j.row.id)).0 (last j.row.id (Done j.row.id) (begin s) tt base)
+    acted (act.Retry wait) = enqueued s.book.given s.moment (jobs.row_after s error j) (Some (later_moment s.moment wait)) (end s.moment j.row.id (Done j.row.id) (begin s)).0 (last j.row.id (Done j.row.id) (begin s) tt base)
 
     raised : Kept (jobs.raise s error message j (begin s)).draft
-    raised = acted decision.act
+    raised = acted (decision_of s.settings j.row.class error j.row.counts).act
 
   -- ---- the commands about jobs and queues
 
