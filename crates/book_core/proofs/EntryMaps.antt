@@ -17,6 +17,7 @@ use Rattle.std.specs.declared.cmp.Ordering.TheVariants.{Less, Equal, Greater}
 use Rattle.queue_model.specs.Map.{Map, from_entries, get, insert, remove}
 use Rattle.queue_model.proofs.Maps.{entries-insert, get-insert, get-remove, same_map}
 use Rattle.queue_model.proofs.Steps.{same_Some}
+use Rattle.plan_model.proofs.MapLemmas.{both, less, none_below}
 
 -- ---- numbers
 
@@ -85,25 +86,11 @@ module _ {V W : Type 0} (f g : ℕ → V → W) where
 
 -- ---- what all values have
 
-pub both_T : (a b : Bool) → T (a && b) → T a × T b
-both_T true b p = (tt, p)
-both_T false b p = absurd p
-
-less : (r : Ordering) → T (is_lt r) → r ≡ Less
-less Less p = refl
-less Equal p = absurd p
-less Greater p = absurd p
-
-pub none_below : {X : Type 0} (k : ℕ) (es : List (ℕ × X)) → T (below_all nat_cmp k es) → find nat_cmp k es ≡ None
-none_below k [] p = refl
-none_below k (e ∷ es) p = let q = both_T (is_lt (nat_cmp k e.0)) (below_all nat_cmp k es) p in
-    ap (λ r. cond (is_eq r) (Some e.1) (find nat_cmp k es)) (less (nat_cmp k e.0) q.0) ∙ none_below k es q.1
-
 -- a number below the first one is below all
 pub below_before : {X : Type 0} (k first : ℕ) (es : List (ℕ × X)) → nat_cmp k first ≡ Less → T (below_all nat_cmp first es) → T (below_all nat_cmp k es)
 below_before k first [] e p = tt
 below_before k first (x ∷ es) e p =
-    let q = both_T (is_lt (nat_cmp first x.0)) (below_all nat_cmp first es) p in
+    let q = both (is_lt (nat_cmp first x.0)) (below_all nat_cmp first es) p in
     joined (is_lt (nat_cmp k x.0)) (below_all nat_cmp k es) (ap is_lt (nat_cmp_total.trans k first x.0 e (less (nat_cmp first x.0) q.0))) (below_before k first es e q.1)
   where
     joined : (a b : Bool) → a ≡ true → T b → T (a && b)
@@ -116,7 +103,7 @@ later_found {X} e es k v p found = by (nat_cmp k e.0) refl
     by : (r : Ordering) → nat_cmp k e.0 ≡ r → cond (is_eq r) (Some e.1) (find nat_cmp k es) ≡ Some v
     by Less is = found
     by Greater is = found
-    by Equal is = absurd (none_there (sym found ∙ ap (λ q. find nat_cmp q es) (nat_cmp-IsAntisymmetric k e.0 is) ∙ none_below e.0 es p))
+    by Equal is = absurd (none_there (sym found ∙ ap (λ q. find nat_cmp q es) (nat_cmp-IsAntisymmetric k e.0 is) ∙ none_below nat_cmp_total e.0 es p))
       where
         none_there : Some v ≡ None → ⊥
         none_there h = true≢false (ap is_some h)
@@ -124,7 +111,7 @@ later_found {X} e es k v p found = by (nat_cmp k e.0) refl
 -- what is true of each value that is found is true of each entry
 pub all_found : {X : Type 0} (P : ℕ → X → Type 0) (es : List (ℕ × X)) → T (is_sorted nat_cmp es) → ((k : ℕ) (v : X) → find nat_cmp k es ≡ Some v → P k v) → AllByRecursion (λ e. P e.0 e.1) es
 all_found P [] s h = tt
-all_found P (e ∷ es) s h = let q = both_T (below_all nat_cmp e.0 es) (is_sorted nat_cmp es) s in (
+all_found P (e ∷ es) s h = let q = both (below_all nat_cmp e.0 es) (is_sorted nat_cmp es) s in (
   h e.0 e.1 (ap (λ b. cond b (Some e.1) (find nat_cmp e.0 es)) (itself e.0)),
   all_found P es q.1 (λ k v found. h k v (later_found e es k v q.0 found)),
 )
@@ -142,13 +129,13 @@ each_found {X} P (e ∷ es) k v all found = by (nat_cmp k e.0) refl found (each_
 few_keys : {X : Type 0} (es : List (ℕ × X)) (low high : ℕ) → T (is_sorted nat_cmp es) → AllByRecursion (λ e. (low ≤ e.0) × (e.0 < high)) es → length es ≤ high - low
 few_keys [] low high s all = omega arith
 few_keys {X} (e ∷ es) low high s all =
-    let q = both_T (below_all nat_cmp e.0 es) (is_sorted nat_cmp es) s in
+    let q = both (below_all nat_cmp e.0 es) (is_sorted nat_cmp es) s in
     let rest = few_keys es (suc e.0) high q.1 (above es q.0 all.1) in
     omega (arith, rest, all.0.0, all.0.1)
   where
     above : (es : List (ℕ × X)) → T (below_all nat_cmp e.0 es) → AllByRecursion (λ e. (low ≤ e.0) × (e.0 < high)) es → AllByRecursion (λ x. (suc e.0 ≤ x.0) × (x.0 < high)) es
     above [] below all = tt
-    above (x ∷ es) below all = let q = both_T (is_lt (nat_cmp e.0 x.0)) (below_all nat_cmp e.0 es) below in ((rises e.0 x.0 (less (nat_cmp e.0 x.0) q.0), all.0.1), above es q.1 all.1)
+    above (x ∷ es) below all = let q = both (is_lt (nat_cmp e.0 x.0)) (below_all nat_cmp e.0 es) below in ((rises e.0 x.0 (less (nat_cmp e.0 x.0) q.0), all.0.1), above es q.1 all.1)
       where
         rises : (a b : ℕ) → nat_cmp a b ≡ Less → suc a ≤ b
         rises a b e = grind (arith, nat_tests)

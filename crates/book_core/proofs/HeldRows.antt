@@ -5,7 +5,7 @@ use Rattle.std.specs.List.{AllByRecursion, list_all}
 use Rattle.std.specs.Ordering.{is_eq, is_lt, nat_cmp}
 use Rattle.std.specs.declared.cmp.Ordering.{Ordering}
 use Rattle.std.specs.declared.cmp.Ordering.TheVariants.{Less, Equal, Greater}
-use Rattle.std.specs.Cmp.{tied_itself}
+use Rattle.std.specs.Cmp.{nat_cmp_total, tied_itself}
 use Rattle.std.specs.FinMap.{nat_cmp-IsAntisymmetric}
 use Rattle.std.specs.FinMap.Entries.{below_all, find, is_sorted}
 use Rattle.std.proofs.lemmas.Bool.{eqb-true, eq-eqb, true≢false}
@@ -28,8 +28,10 @@ use Rattle.plan_model.specs.Books.{Book}
 use Rattle.plan_model.specs.Plans.{Plan}
 use Rattle.plan_model.specs.Refusals.{first_met, refuse}
 use Rattle.plan_model.specs.Scenes.{are_free, fit_together, is_free, leaves_free}
+use Rattle.plan_model.proofs.MapLemmas as map_lemmas
 use Rattle.book_core.specs.Seen.{row_held, rows_at}
-use Rattle.book_core.proofs.EntryMaps.{all_found, below_before, both_T, each_found, none_below}
+use Rattle.book_core.proofs.EntryMaps.{all_found, below_before, each_found}
+use Rattle.book_core.proofs.SeatRows.{less_than}
 
 both : (a b : Bool) → (a && b) ≡ true → (a ≡ true) × (b ≡ true)
 both true b e = (refl, e)
@@ -42,11 +44,6 @@ true_unless false never = absurd (never refl)
 false_unless : (b : Bool) → (b ≡ true → ⊥) → b ≡ false
 false_unless false never = refl
 false_unless true never = absurd (never refl)
-
-less : (o : Ordering) → is_lt o ≡ true → o ≡ Less
-less Less e = refl
-less Equal e = absurd (true≢false (sym e))
-less Greater e = absurd (true≢false (sym e))
 
 greater : (a b : ℕ) → nat_cmp a b ≡ Greater → b < a
 greater a b e = grind (arith, nat_tests)
@@ -165,11 +162,11 @@ module _ (locks : List Lock) (b : Book) (seen : AreRowsOf locks b.open_plans) (s
   least_holder : (r : Row × Mode) (by : ℕ) (plan : Plan) (es : List (ℕ × Plan)) → T (is_sorted nat_cmp es) → find nat_cmp by es ≡ Some plan → leave r.0 r.1 plan.rows ≡ false
       → AllByRecursion (λ e. e.0 < by → leave r.0 r.1 e.1.rows ≡ true) es → holder r es ≡ Some (Locked r.0 by)
   least_holder r by plan [] s found e all = absurd (true≢false (sym (ap is_some found)))
-  least_holder r by plan (x ∷ es) s found e all = at (nat_cmp by x.0) refl found (λ found. least_holder r by plan es (both_T (below_all nat_cmp x.0 es) (is_sorted nat_cmp es) s).1 found e all.1)
+  least_holder r by plan (x ∷ es) s found e all = at (nat_cmp by x.0) refl found (λ found. least_holder r by plan es (map_lemmas.both (below_all nat_cmp x.0 es) (is_sorted nat_cmp es) s).1 found e all.1)
     where
       at : (o : Ordering) → nat_cmp by x.0 ≡ o → cond (is_eq o) (Some x.1) (find nat_cmp by es) ≡ Some plan → (find nat_cmp by es ≡ Some plan → holder r es ≡ Some (Locked r.0 by)) → after_first r x.0 es (leave r.0 r.1 x.1.rows) ≡ Some (Locked r.0 by)
       at Equal is found later = ap (after_first r x.0 es) (ap (λ p. leave r.0 r.1 p.rows) (same_Some x.1 plan found) ∙ e) ∙ ap (λ k. Some (Locked r.0 k)) (sym (nat_cmp-IsAntisymmetric by x.0 is))
-      at Less is found later = absurd (true≢false (sym (ap is_some found) ∙ ap is_some (none_below by es (below_before by x.0 es is (both_T (below_all nat_cmp x.0 es) (is_sorted nat_cmp es) s).0))))
+      at Less is found later = absurd (true≢false (sym (ap is_some found) ∙ ap is_some (map_lemmas.none_below nat_cmp_total by es (below_before by x.0 es is (map_lemmas.both (below_all nat_cmp x.0 es) (is_sorted nat_cmp es) s).0))))
       at Greater is found later = ap (after_first r x.0 es) (all.0 (greater by x.0 is)) ∙ later found
 
   -- rows in turn
@@ -178,7 +175,7 @@ module _ (locks : List Lock) (b : Book) (seen : AreRowsOf locks b.open_plans) (s
   below_first first row mode (r ∷ rows) e here =
       let each = both (is_lt (row_cmp first r.0)) (below_all row_cmp first rows) e in
       elim (Contains-cons_cases r rows (row, mode) here) [
-        | inl is ↦ less (row_cmp first row) (subst (λ x. is_lt (row_cmp first x) ≡ true) (ap (λ x. x.0) is) each.0)
+        | inl is ↦ less_than (row_cmp first row) (subst (λ x. is_lt (row_cmp first x) ≡ true) (ap (λ x. x.0) is) each.0)
         | inr later ↦ below_first first row mode rows each.1 later
       ]
 

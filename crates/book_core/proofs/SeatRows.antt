@@ -97,10 +97,10 @@ both : (a b : Bool) → (a && b) ≡ true → (a ≡ true) × (b ≡ true)
 both true b e = (refl, e)
 both false b e = absurd (true≢false (sym e))
 
-less : (o : Ordering) → is_lt o ≡ true → o ≡ Less
-less Less e = refl
-less Equal e = absurd (true≢false (sym e))
-less Greater e = absurd (true≢false (sym e))
+pub less_than : (o : Ordering) → is_lt o ≡ true → o ≡ Less
+less_than Less e = refl
+less_than Equal e = absurd (true≢false (sym e))
+less_than Greater e = absurd (true≢false (sym e))
 
 -- rows that strictly rise
 rising_up : (rows : List (Row × Mode)) → IsTrue (is_sorted row_cmp rows) → AreUp held_cmp rows
@@ -111,7 +111,7 @@ rising_up (r ∷ rows) up = let each = both (below_all row_cmp r.0 rows) (is_sor
     above [] below = tt
     above (x ∷ rows) below =
         let each = both (is_lt (row_cmp r.0 x.0)) (below_all row_cmp r.0 rows) below in (
-          ap (λ o. is_lt (ordering_then o (nat_cmp (rank x.1) (rank r.1)))) (row_total.antisymm x.0 r.0 ∙ ap ordering_reverse (less (row_cmp r.0 x.0) each.0)),
+          ap (λ o. is_lt (ordering_then o (nat_cmp (rank x.1) (rank r.1)))) (row_total.antisymm x.0 r.0 ∙ ap ordering_reverse (less_than (row_cmp r.0 x.0) each.0)),
           above rows each.1,
         )
 
