@@ -1,44 +1,44 @@
 mod AllowedAfter
 mod AllowedCases
-mod AllowedClaims
+pub mod AllowedClaims
 mod AllowedEnds
 mod AllowedFirst
-mod AllowedMoves
+pub mod AllowedMoves
 mod AllowedOthers
 pub mod AllowedSeen
-mod Apart
+pub mod Apart
 pub mod BooksFree
 mod BooksGiven
 mod BooksGood
 pub mod BooksKept
 mod Claims
 mod Commands
-mod CountLemmas
-mod Departures
+pub mod CountLemmas
+pub mod Departures
 mod Discards
 mod DraftLemmas
-mod DueJobs
+pub mod DueJobs
 mod EachCommand
-mod EachFree
+pub mod EachFree
 mod Endings
-mod Expiry
+pub mod Expiry
 pub mod FreshLemmas
 mod GoodDrafts
-mod Holders
-mod LateJobs
+pub mod Holders
+pub mod LateJobs
 mod LegalCases
 mod ManyCommands
-mod ManyJobs
+pub mod ManyJobs
 pub mod MapLemmas
-mod Offers
+pub mod Offers
 mod Opening
 pub mod OrderLemmas
 pub mod PlacedJobs
 mod Places
 mod PlanLemmas
-mod Polls
+pub mod Polls
 mod Processes
-mod Raising
+pub mod Raising
 mod Ranged
 pub mod RowLemmas
 mod Spending

@@ -165,7 +165,8 @@ module _ (s : Scene) where
   job_size (command.Poll pid items limit) fits =
       let all = all_size (λ j d. push s.moment (Claim j.row.id pid) d) (λ j d. one_more s.moment (Claim j.row.id pid) d) (take limit (on_offer s.book items)) (holding (row.Process pid) Shared (begin s)) in
       let few = taken limit (on_offer s.book items) in
-      omega (arith, all, few, fits)
+      let within = fits.1 in
+      omega (arith, all, few, within)
   job_size (command.Done pid id) fits = one_end id (Done id)
   job_size (command.Raised pid id error message) fits = with_job_size s id (λ j. raise s error message j (begin s)) (raise_size s error message)
   job_size (command.Release pid id) fits = one_step (Release id)

@@ -8,6 +8,7 @@ use Rattle.job_states.specs.declared.command.Command.{Command}
 use Rattle.job_states.specs.declared.command.Command.TheVariants as command
 use Rattle.job_states.specs.declared.command.NewJob.{NewJob}
 use Rattle.queue_config.specs.Ranges.{IsConfig}
+use Rattle.queue_selector.specs.Items.{IsQueueList}
 use Rattle.plan_model.specs.GoodBook.{IsGoodBook}
 use Rattle.plan_model.specs.JobCommands.{new_row, may_discard}
 use Rattle.plan_model.specs.Scenes.{Scene}
@@ -26,7 +27,7 @@ pub record IsNewJob (s : Scene) (new : NewJob) : Type 0 where
 abbrev pub IsWithinRanges : Scene → Command → Type 0
 IsWithinRanges s (command.Enqueue new) = IsNewJob s new
 IsWithinRanges s (command.Bulk news) = All (IsNewJob s) news × (length news ≤ 100)
-IsWithinRanges s (command.Poll pid items limit) = limit ≤ 100
+IsWithinRanges s (command.Poll pid items limit) = IsQueueList items × (limit ≤ 100)
 IsWithinRanges s (command.Raised pid id error message) = IsTrue (is_name error)
 IsWithinRanges s (command.DiscardMany status queue class) = IsTrue (may_discard (Some status))
 IsWithinRanges s (command.Pause queue) = IsTrue (is_name queue)

@@ -16,6 +16,9 @@ pub record Scene : Type 0 where
   pub settings : Config
   pub moment : ℕ
 
+abbrev pub scene : Book → Config → (moment : ℕ) → Scene
+scene b settings m = record { book = b; settings = settings; moment = m }
+
 -- ---- free rows
 
 abbrev pub fit_together : Mode → Mode → Bool

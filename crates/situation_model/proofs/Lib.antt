@@ -4,7 +4,7 @@ mod Made
 mod Numbered
 mod NumberedCommands
 mod Moments
-mod Ranges
+pub mod Ranges
 mod Replays
 mod Stands
 mod Stays
