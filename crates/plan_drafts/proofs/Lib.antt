@@ -1,2 +1,5 @@
+mod Ending
+mod Finishing
+mod InOrder
 mod Pushing
 mod Reading

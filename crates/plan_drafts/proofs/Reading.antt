@@ -1,5 +1,5 @@
 -- What a transition that is allowed reads and names.
-use Rattle.std.proofs.Common.{◌≡◌, ◌≢◌, ◌≤◌, ◌<◌, ◌-◌, ◌^◌, ℕ, Bool, true, false, List, [], ◌++◌, ◌∷◌, Option, None, Some, is_some, Result, Ok, Err, OnOk, ap, sym, ◌∙◌, refl, subst, ⊎_elim, append_assoc, arith}
+use Rattle.std.proofs.Common.{◌≡◌, ◌≤◌, ◌<◌, ◌-◌, ◌^◌, ℕ, Bool, true, false, List, [], ◌++◌, ◌∷◌, Option, None, Some, is_some, Result, Ok, Err, OnOk, ap, sym, ◌∙◌, refl, subst, ⊎_elim, append_assoc, arith}
 use Rattle.std.proofs.lemmas.Bool.{true≢false, cases_lt}
 use Rattle.std.proofs.lemmas.List.{map-append}
 use Rattle.std.specs.Option.{option_map}

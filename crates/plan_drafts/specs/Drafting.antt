@@ -1,5 +1,5 @@
 -- A draft as a contract sees it.
-use Rattle.std.specs.Prelude.{ℕ, List, [], ◌++◌}
+use Rattle.std.specs.Prelude.{◌≡◌, ℕ, List, [], ◌++◌}
 use Rattle.std.proofs.Common.{refl}
 use Rattle.std.specs.Coded.{Coded, code_by, coded×, coded_ℕ, coded_list}
 use Rattle.job_states.specs.contracts.Mode as mode
@@ -14,6 +14,7 @@ use Rattle.queue_model.specs.declared.Numbers.{Numbers}
 use Rattle.exec_tables.specs.Store.{Store}
 use Rattle.exec_tables.specs.Stored.{coded_store}
 use Rattle.plan_model.specs.Drafts.{Draft, push}
+use Rattle.plan_model.specs.Scenes.{Scene}
 use Rattle.plan_drafts.specs.Left.{steps_of, world_after}
 use Rattle.plan_drafts.specs.declared.pushed.Pushed.{Pushed}
 
@@ -46,6 +47,16 @@ with_rows d rows = with_draft d (record d.draft { rows = d.draft.rows ++ rows })
 -- with this transition pushed, but for the rows that it holds
 abbrev pub with_step : Drafting → Transition → Drafting
 with_step d t = with_draft d (record (push d.moment t d.draft) { rows = d.draft.rows })
+
+-- a call gives this draft and this value
+pub record GivesDraft {A : Type 0} (old new : Drafting) (given : Draft × A) (value : A) : Type 0 where
+  pub draft : new ≡ with_draft old given.0
+  pub value_is : value ≡ given.1
+
+-- it was begun in the scene
+pub record IsBegunIn (s : Scene) (d : Drafting) : Type 0 where
+  pub given : s.book.given ≡ d.begun.given
+  pub moment : s.moment ≡ d.moment
 
 -- ---- how a proof tells two of them apart: each as the tuple of its parts
 

@@ -1,4 +1,5 @@
 pub mod Drafting
+pub mod Ends
 pub mod Left
 pub mod Made
 pub mod Pushes

@@ -109,6 +109,13 @@ impl<'a> Draft<'a> {
         let _given = &self.given;
     }
 
+    /// The rows that it holds so far, as they were held.
+    pub fn rows(&self) -> &[(Row, Mode)]
+        ensures { result.now ≡ self.now.draft.rows }
+    {
+        &self.rows
+    }
+
     // ---- meeting a semaphore
 
     /// The generation of the permit that is taken at the key.

@@ -2,8 +2,13 @@
 #![tactic(auto)]
 
 mod draft;
+mod end;
+mod enqueue;
+mod finish;
 mod push;
 mod pushed;
+#[cfg(test)]
+mod tests;
 
 pub use draft::Draft;
 pub use pushed::Pushed;

@@ -49,6 +49,19 @@ impl<'a> Draft<'a> {
         })
     }
 
+    /// The rows that the transition would hold, which is legal where the draft stands.
+    pub fn rows_of(&self, step: &Transition) -> Result<Vec<(Row, Mode)>, NoMemory>
+        requires allowed { IsAllowed self.now.moment self.now.draft step.now }
+        requires known { IsKnown self.now.begun.world step.now }
+        requires fit { IsFit (new_limit step.now) }
+        ensures { IfOk result (λ rows. rows.items ≡ held_rows (holds self.now.draft.world step.now)) }
+    {
+        let job = self.job_read(step);
+        let mut rows = Vec::new(*self.rows.allocator());
+        hold_all(&mut rows, &Held::of(step, &job))?;
+        Ok(rows)
+    }
+
     // The job that the transition reads. A new one isn't there yet, and a run's rows don't depend on its job.
     fn job_read(&self, step: &Transition) -> Option<Found<'a>>
         requires allowed { IsAllowed self.now.moment self.now.draft step.now }
