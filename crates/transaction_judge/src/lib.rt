@@ -9,8 +9,6 @@ ghost use Rattle.queue_model.specs.World.{World};
 
 mod after;
 mod moved;
-#[cfg(test)]
-mod tests;
 
 use crate::after::sight_after;
 use exec_tables::Tables;
