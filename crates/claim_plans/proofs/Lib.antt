@@ -1,0 +1,5 @@
+mod Claiming
+mod Coming
+mod Cuts
+mod Errors
+mod Taking

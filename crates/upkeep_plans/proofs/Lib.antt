@@ -1,0 +1,10 @@
+mod Doing
+mod DueWalk
+mod KeyWalks
+mod LateCases
+mod LateWalk
+mod Passed
+mod Pruning
+mod Refusing
+mod StandingJobs
+mod TakenCases
