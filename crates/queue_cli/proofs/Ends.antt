@@ -3,11 +3,11 @@ use Rattle.std.proofs.Common.{◌≡◌, ℕ, List, [], Option, None, Some, IfNo
 use Rattle.std.specs.Io.KnownBytes.{Appends}
 use Rattle.std.proofs.KnownBytes.{Appends-nil}
 use Rattle.sq_outside.specs.Fault.{Rose}
-use Rattle.sq_outside.specs.Streams.{SourceState, SinkState}
+use Rattle.sq_outside.specs.Streams.{SinkState}
 use Rattle.http_wire.specs.Reply.{AppendsPrefix}
 use Rattle.queue_cli.specs.declared.end.End.{End}
 use Rattle.queue_cli.specs.declared.end.End.TheVariants.{Done, BadInput, Usage, BadSettings, ReadFault, WriteFault, NoMemory, InputTooLong}
-use Rattle.queue_cli.specs.LastText.{last_text, WritesLast, Reports}
+use Rattle.queue_cli.specs.LastText.{WritesLast, Reports}
 use Rattle.queue_cli.specs.Outside.{Outside}
 use Rattle.queue_cli.specs.Run.{EndsWithoutSettings}
 use Rattle.queue_cli.specs.Settings.{LacksSettings}

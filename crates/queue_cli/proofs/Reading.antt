@@ -1,9 +1,9 @@
 -- Which exit status comes where settings and input are known.
-use Rattle.std.proofs.Common.{◌≡◌, ◌≤◌, ◌<◌, ◌⊎◌, ◌+◌, inl, inr, ℕ, List, [], ◌∷◌, ◌++◌, length, take, drop, length-append, Ok, Err, ap, ◌∙◌, Option, None, Some, IfSome, refl, sym, subst, arith}
+use Rattle.std.proofs.Common.{◌≡◌, ◌≤◌, ◌⊎◌, ◌+◌, inl, inr, ℕ, List, ◌++◌, length, take, drop, length-append, Ok, Err, ap, ◌∙◌, Option, None, Some, IfSome, refl, sym, subst, arith}
 use Rattle.std.specs.Io.KnownBytes.{Consumes}
 use Rattle.sq_outside.specs.Fault.{Rose}
 use Rattle.sq_outside.specs.Streams.{SourceState}
-use Rattle.http_wire.specs.Stream.{IsRequest, IsEnd, IsRefused}
+use Rattle.http_wire.specs.Stream.{IsEnd, IsRefused}
 use Rattle.http_wire.specs.declared.head.Refusal.{Refusal}
 use Rattle.http_wire.specs.declared.request.Request.{Request}
 use Rattle.queue_config.specs.declared.config.Config.{Config}
@@ -17,7 +17,7 @@ use Rattle.queue_cli.specs.declared.end.End.TheVariants as ends
 use Rattle.queue_cli.specs.Exec.{Session, AreRequests, AnswersPrefix, requests_of}
 use Rattle.queue_cli.specs.ExitStatus.{exit_status}
 use Rattle.queue_cli.specs.Outside.{Outside}
-use Rattle.queue_cli.specs.Run.{Performs, EndsWithoutSettings, AnswersBySettings, HasOutcome, RefusesSettings, IsComplete, Runs}
+use Rattle.queue_cli.specs.Run.{Performs, Runs}
 use Rattle.queue_cli.specs.Settings.{TakesPrefix, most_read, LacksSettings}
 use Rattle.queue_cli.proofs.Requests.{never_refused, requests_then, pending_at}
 use Rattle.queue_cli.proofs.SettingsLemmas.{judged_prefix}
@@ -41,20 +41,20 @@ not_refused bytes requests rest taken others pending at why left are end whole f
     (subst Q (ap (drop at) whole ∙ pending_at at taken others pending left first place) refused)
 
 -- a sequence of requests is answered whole, or there is no memory for it
-done_or_no_memory : (settings : Config) (old new : Session) (end : End) → AnswersPrefix settings old new end
+done_or_no_memory : (old new : Session) (end : End) → AnswersPrefix old new end
     → (bytes : List ℕ) (requests : List Request) (rest : List ℕ) → old.input.left ≡ Some bytes → AreRequests bytes requests rest → IsEnd rest → length bytes ≤ 1073741824
     → (Rose old.input.faults new.input.faults → ⊥) → (Rose old.output.faults new.output.faults → ⊥) → (exit_status end ≡ 0) ⊎ (exit_status end ≡ 7)
-done_or_no_memory settings old new ends.Done answers bytes requests rest is are at_end short reads writes = inl refl
-done_or_no_memory settings old new (ends.BadInput at refusal) answers bytes requests rest is are at_end short reads writes =
+done_or_no_memory old new ends.Done answers bytes requests rest is are at_end short reads writes = inl refl
+done_or_no_memory old new (ends.BadInput at refusal) answers bytes requests rest is are at_end short reads writes =
     let known = taken_of_known old.input.left new.input.left bytes answers.taken is answers.consumed in
     let P : Option (List ℕ) → Type 0 = λ left. IfSome left (λ bytes. IsRefused (drop at bytes) refusal) in
     absurd (not_refused bytes requests rest answers.taken (requests_of answers.exchanges) answers.pending at refusal known.0 are at_end known.1 answers.requests answers.cause.place (subst P is answers.cause.refused))
-done_or_no_memory settings old new ends.Usage answers bytes requests rest is are at_end short reads writes = absurd answers.cause
-done_or_no_memory settings old new (ends.BadSettings number key) answers bytes requests rest is are at_end short reads writes = absurd answers.cause
-done_or_no_memory settings old new ends.ReadFault answers bytes requests rest is are at_end short reads writes = absurd (reads answers.cause.0)
-done_or_no_memory settings old new ends.WriteFault answers bytes requests rest is are at_end short reads writes = absurd (writes answers.written.fault)
-done_or_no_memory settings old new ends.NoMemory answers bytes requests rest is are at_end short reads writes = inr refl
-done_or_no_memory settings old new ends.InputTooLong answers bytes requests rest is are at_end short reads writes =
+done_or_no_memory old new ends.Usage answers bytes requests rest is are at_end short reads writes = absurd answers.cause
+done_or_no_memory old new (ends.BadSettings number key) answers bytes requests rest is are at_end short reads writes = absurd answers.cause
+done_or_no_memory old new ends.ReadFault answers bytes requests rest is are at_end short reads writes = absurd (reads answers.cause.0)
+done_or_no_memory old new ends.WriteFault answers bytes requests rest is are at_end short reads writes = absurd (writes answers.written.fault)
+done_or_no_memory old new ends.NoMemory answers bytes requests rest is are at_end short reads writes = inr refl
+done_or_no_memory old new ends.InputTooLong answers bytes requests rest is are at_end short reads writes =
     let known = taken_of_known old.input.left new.input.left bytes answers.taken is answers.consumed in
     let whole : length bytes ≡ length answers.taken + length known.0 = ap length known.1 ∙ length-append answers.taken known.0 in
     absurd (omega (arith, whole, short, answers.cause.full))
@@ -107,7 +107,7 @@ complete : (old new : Outside) (end : End) → Performs (Some Exec) old new end 
 complete old new end (inl without) text settings left accepted bytes requests rest is are at_end short file reads writes =
     not_accepted old.settings new.settings end without.cause text settings left accepted file
 complete old new end (inr answers) text settings left accepted bytes requests rest is are at_end short file reads writes =
-    done_or_no_memory answers.settings _ _ end answers.answers bytes requests rest is are at_end short reads writes
+    done_or_no_memory _ _ end answers.answers bytes requests rest is are at_end short reads writes
 
 -- the whole promise follows from what the command does
 pub runs : (words : List (List ℕ)) (old new : Outside) (end : End) (status : ℕ) → Performs (command_of words) old new end → status ≡ exit_status end → Runs words old new status

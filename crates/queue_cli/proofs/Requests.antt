@@ -1,6 +1,5 @@
 -- Requests back to back.
-use Rattle.std.proofs.Common.{◌≡◌, ◌+◌, ℕ, List, [], ◌∷◌, ◌++◌, length, drop, refl, ap, sym, ◌∙◌, subst, arith, append_assoc}
-use Rattle.std.specs.Io.KnownBytes.{Consumes}
+use Rattle.std.proofs.Common.{◌≡◌, ◌+◌, ℕ, List, [], ◌∷◌, ◌++◌, length, drop, ap, sym, ◌∙◌, subst, arith, append_assoc}
 use Rattle.std.proofs.lemmas.Grind.{common_steps}
 use Rattle.http_wire.specs.Stream.{IsRequest, IsEnd, IsRefused}
 use Rattle.http_wire.proofs.StreamLaws.{one_request, request_goes_on, request_not_refused, request_more}

@@ -1,12 +1,12 @@
 -- A run over a stream, request by request.
-use Rattle.std.proofs.Common.{◌≡◌, ◌+◌, ◌≤◌, ◌<◌, inl, inr, ℕ, List, [], ◌∷◌, ◌++◌, length, length-append, drop, Option, None, Some, IfSome, refl, ap, sym, ◌∙◌, subst, arith, append_assoc, append-nil}
+use Rattle.std.proofs.Common.{◌≡◌, ◌+◌, ◌≤◌, inl, inr, ℕ, List, [], ◌∷◌, ◌++◌, length, length-append, drop, Option, None, Some, IfSome, refl, ap, sym, ◌∙◌, subst, arith, append_assoc, append-nil}
 use Rattle.std.specs.Io.KnownBytes.{Appends, Consumes, prepend_known}
 use Rattle.std.proofs.KnownBytes.{Appends-nil, Appends-trans, Consumes-nil, Consumes-trans}
 use Rattle.std.proofs.lemmas.Fn.{FoldsTo-push}
 use Rattle.std.proofs.lemmas.Grind.{flat_map-append}
 use Rattle.std.proofs.lemmas.List.{map_push}
 use Rattle.sq_outside.specs.Fault.{Rose}
-use Rattle.sq_outside.specs.Streams.{SourceState, SinkState}
+use Rattle.sq_outside.specs.Streams.{SinkState}
 use Rattle.http_wire.specs.Ahead.{Ahead}
 use Rattle.http_wire.specs.Stream.{input_of, taken_of, IsRequest, IsRefused, HasReadOn, HasReadAll, TakesRequest, EndsInput, FailsWith}
 use Rattle.http_wire.specs.Stream as wire
@@ -16,32 +16,31 @@ use Rattle.http_wire.specs.declared.head.Refusal.TheVariants as refusals
 use Rattle.http_wire.specs.declared.request.Request.{Request}
 use Rattle.http_wire.specs.declared.request.WireFault.{WireFault}
 use Rattle.http_wire.specs.declared.request.WireFault.TheVariants as faults
-use Rattle.queue_config.specs.declared.config.Config.{Config}
-use Rattle.queue_http.specs.Service.{Service, Answers}
+use Rattle.queue_http.specs.Service.{Service}
 use Rattle.queue_cli.specs.declared.end.End.{End}
 use Rattle.queue_cli.specs.declared.end.End.TheVariants.{Done, BadInput, ReadFault, WriteFault, NoMemory, InputTooLong}
-use Rattle.queue_cli.specs.Exec.{Session, session, Exchange, requests_of, reply_texts, AreRequests, AreAnswered, AnswersPrefix, EndsFor, WritesReplies, fault_end, most_taken}
+use Rattle.queue_cli.specs.Exec.{Session, Exchange, requests_of, reply_texts, AreRequests, IsAnswered, AreAnswered, AnswersPrefix, EndsFor, WritesReplies, fault_end, most_taken}
 use Rattle.queue_cli.specs.LastText.{last_text, WritesLast, Reports}
 use Rattle.queue_cli.proofs.Requests.{requests_then, pending_at}
 
 -- the requests before the bytes ahead were answered
-pub record Answering (settings : Config) (old new : Session) (ahead : Ahead) : Type 0 where
+pub record Answering (old new : Session) (ahead : Ahead) : Type 0 where
   pub taken : List ℕ
   pub exchanges : List Exchange
   pub consumed : Consumes old.input.left new.input.left taken
   pub place : length taken ≡ taken_of ahead
   pub requests : AreRequests taken (requests_of exchanges) ahead.bytes
-  pub answers : AreAnswered settings old.service exchanges new.service
+  pub answers : AreAnswered old.service exchanges new.service
   pub reads : old.input.faults ≤ new.input.faults
 
 -- and their replies were written: what holds between two requests
-pub record Serving (settings : Config) (old new : Session) (ahead : Ahead) : Type 0 where
-  pub answering : Answering settings old new ahead
+pub record Serving (old new : Session) (ahead : Ahead) : Type 0 where
+  pub answering : Answering old new ahead
   pub written : Appends old.output.written new.output.written (reply_texts answering.exchanges)
   pub writes : old.output.faults ≤ new.output.faults
 
-pub at_start : (settings : Config) (old : Session) (ahead : Ahead) → ahead.bytes ≡ [] → ahead.at ≡ 0 → Serving settings old old ahead
-at_start settings old ahead none first = record {
+pub at_start : (old : Session) (ahead : Ahead) → ahead.bytes ≡ [] → ahead.at ≡ 0 → Serving old old ahead
+at_start old ahead none first = record {
   answering = record {
     taken = [];
     exchanges = [];
@@ -59,9 +58,9 @@ length_then : (taken read : List ℕ) (n m : ℕ) → length taken ≡ n → m �
 length_then taken read n m is more = omega (arith, is, more, length-append taken read)
 
 -- one more request is answered
-abbrev answered_more : (settings : Config) (old mid new : Session) (ahead ahead' : Ahead) (exchange : Exchange) → Answering settings old mid ahead
-    → TakesRequest (input_of ahead mid.input) exchange.request (input_of ahead' new.input) → Answers settings mid.service exchange.request exchange.reply new.service → Answering settings old new ahead'
-answered_more settings old mid new ahead ahead' exchange answering takes answers = record {
+abbrev answered_more : (old mid new : Session) (ahead ahead' : Ahead) (exchange : Exchange) → Answering old mid ahead
+    → TakesRequest (input_of ahead mid.input) exchange.request (input_of ahead' new.input) → IsAnswered mid.service exchange new.service → Answering old new ahead'
+answered_more old mid new ahead ahead' exchange answering takes answers = record {
   taken = answering.taken ++ takes.read;
   exchanges = answering.exchanges ++ exchange ∷ [];
   consumed = Consumes-trans old.input.left mid.input.left new.input.left answering.taken takes.read answering.consumed takes.has_read.consumed;
@@ -72,7 +71,7 @@ answered_more settings old mid new ahead ahead' exchange answering takes answers
       (FoldsTo-push IsRequest (answering.taken ++ takes.read) (requests_of answering.exchanges) (ahead.bytes ++ takes.read) exchange.request ahead'.bytes
       (requests_then answering.taken (requests_of answering.exchanges) ahead.bytes takes.read answering.requests) takes.is_request)
       );
-  answers = FoldsTo-push (λ old exchange new. Answers settings old exchange.request exchange.reply new) old.service answering.exchanges mid.service exchange new.service answering.answers answers;
+  answers = FoldsTo-push IsAnswered old.service answering.exchanges mid.service exchange new.service answering.answers answers;
   reads = omega (arith, answering.reads, takes.has_read.count);
 }
 
@@ -81,11 +80,11 @@ texts_push exchanges exchange =
     flat_map-append (λ exchange. reply_text exchange.reply) exchanges (exchange ∷ []) ∙ ap (λ w. reply_texts exchanges ++ w) (append-nil (reply_text exchange.reply))
 
 -- its reply is written
-pub serve_more : (settings : Config) (old mid new : Session) (ahead ahead' : Ahead) (exchange : Exchange) → Serving settings old mid ahead
-    → TakesRequest (input_of ahead mid.input) exchange.request (input_of ahead' new.input) → Answers settings mid.service exchange.request exchange.reply new.service
-    → Appends mid.output.written new.output.written (reply_text exchange.reply) → mid.output.faults ≤ new.output.faults → Serving settings old new ahead'
-serve_more settings old mid new ahead ahead' exchange serving takes answers written writes = record {
-  answering = answered_more settings old mid new ahead ahead' exchange serving.answering takes answers;
+pub serve_more : (old mid new : Session) (ahead ahead' : Ahead) (exchange : Exchange) → Serving old mid ahead
+    → TakesRequest (input_of ahead mid.input) exchange.request (input_of ahead' new.input) → IsAnswered mid.service exchange new.service
+    → Appends mid.output.written new.output.written (reply_text exchange.reply) → mid.output.faults ≤ new.output.faults → Serving old new ahead'
+serve_more old mid new ahead ahead' exchange serving takes answers written writes = record {
+  answering = answered_more old mid new ahead ahead' exchange serving.answering takes answers;
   written = (
       let P : List ℕ → Type 0 = Appends old.output.written new.output.written in
       subst P (sym (texts_push serving.answering.exchanges exchange))
@@ -98,11 +97,11 @@ rose_from : (first before after : ℕ) → first ≤ before → Rose before afte
 rose_from first before after le rose = grind arith
 
 -- its reply can't be written
-pub unwritten : (settings : Config) (old mid new : Session) (ahead ahead' : Ahead) (exchange : Exchange) → Serving settings old mid ahead
-    → TakesRequest (input_of ahead mid.input) exchange.request (input_of ahead' new.input) → Answers settings mid.service exchange.request exchange.reply new.service
-    → AppendsPrefix mid.output.written new.output.written (reply_text exchange.reply) → Rose mid.output.faults new.output.faults → AnswersPrefix settings old new WriteFault
-unwritten settings old mid new ahead ahead' exchange serving takes answers part rose =
-    let answering = answered_more settings old mid new ahead ahead' exchange serving.answering takes answers in
+pub unwritten : (old mid new : Session) (ahead ahead' : Ahead) (exchange : Exchange) → Serving old mid ahead
+    → TakesRequest (input_of ahead mid.input) exchange.request (input_of ahead' new.input) → IsAnswered mid.service exchange new.service
+    → AppendsPrefix mid.output.written new.output.written (reply_text exchange.reply) → Rose mid.output.faults new.output.faults → AnswersPrefix old new WriteFault
+unwritten old mid new ahead ahead' exchange serving takes answers part rose =
+    let answering = answered_more old mid new ahead ahead' exchange serving.answering takes answers in
     let failed = rose_from old.output.faults mid.output.faults new.output.faults serving.writes rose in
     record {
       taken = answering.taken;
@@ -129,16 +128,16 @@ unwritten settings old mid new ahead ahead' exchange serving takes answers part 
     }
 
 -- the end is met before another request
-abbrev ended : (settings : Config) (old mid new : Session) (ahead ahead' : Ahead) (read : List ℕ) (end : End) → (answering : Answering settings old mid ahead) → HasReadOn (input_of ahead mid.input) read (input_of ahead' new.input) → mid.service ≡ new.service
-    → WritesReplies old.output new.output answering.exchanges end → taken_of ahead + length read ≤ most_taken end → EndsFor old.input new.input (answering.taken ++ read) (ahead.bytes ++ read) end → AnswersPrefix settings old new end
-ended settings old mid new ahead ahead' read end answering has_read same written within cause = record {
+abbrev ended : (old mid new : Session) (ahead ahead' : Ahead) (read : List ℕ) (end : End) → (answering : Answering old mid ahead) → HasReadOn (input_of ahead mid.input) read (input_of ahead' new.input) → mid.service ≡ new.service
+    → WritesReplies old.output new.output answering.exchanges end → taken_of ahead + length read ≤ most_taken end → EndsFor old.input new.input (answering.taken ++ read) (ahead.bytes ++ read) end → AnswersPrefix old new end
+ended old mid new ahead ahead' read end answering has_read same written within cause = record {
   taken = answering.taken ++ read;
   exchanges = answering.exchanges;
   pending = ahead.bytes ++ read;
   consumed = Consumes-trans old.input.left mid.input.left new.input.left answering.taken read answering.consumed has_read.consumed;
   within = (let whole = length_then answering.taken read (taken_of ahead) (taken_of ahead + length read) answering.place refl in rw whole within);
   requests = requests_then answering.taken (requests_of answering.exchanges) ahead.bytes read answering.requests;
-  answers = (let P : Service → Type 0 = AreAnswered settings old.service answering.exchanges in subst P same answering.answers);
+  answers = (let P : Service → Type 0 = AreAnswered old.service answering.exchanges in subst P same answering.answers);
   written = written;
   cause = cause;
 }
@@ -162,8 +161,8 @@ nothing_last old new first added = record {
   whole = inl refl;
 }
 
-replies_alone : (settings : Config) (old mid new : Session) (ahead : Ahead) → (serving : Serving settings old mid ahead) → mid.output ≡ new.output → WritesLast old.output new.output (reply_texts serving.answering.exchanges) []
-replies_alone settings old mid new ahead serving kept =
+replies_alone : (old mid new : Session) (ahead : Ahead) → (serving : Serving old mid ahead) → mid.output ≡ new.output → WritesLast old.output new.output (reply_texts serving.answering.exchanges) []
+replies_alone old mid new ahead serving kept =
     let P : SinkState → Type 0 = λ output. WritesLast old.output output (reply_texts serving.answering.exchanges) [] in
     subst P kept (nothing_last old.output mid.output (reply_texts serving.answering.exchanges) serving.written)
 
@@ -174,17 +173,17 @@ all_read (Some bytes) None taken read consumed all = absurd consumed
 all_read (Some bytes) (Some rest) taken read consumed all = consumed ∙ ap (λ w. taken ++ w) all
 
 -- the input is at its end
-pub done : (settings : Config) (old mid new : Session) (ahead ahead' : Ahead) → Serving settings old mid ahead → EndsInput (input_of ahead mid.input) (input_of ahead' new.input) → mid.service ≡ new.service → mid.output ≡ new.output
-    → AnswersPrefix settings old new Done
-done settings old mid new ahead ahead' serving ends same kept =
-    ended settings old mid new ahead ahead' ends.read Done serving.answering ends.has_read same (replies_alone settings old mid new ahead serving kept) (omega (arith, ends.place, ends.within))
+pub done : (old mid new : Session) (ahead ahead' : Ahead) → Serving old mid ahead → EndsInput (input_of ahead mid.input) (input_of ahead' new.input) → mid.service ≡ new.service → mid.output ≡ new.output
+    → AnswersPrefix old new Done
+done old mid new ahead ahead' serving ends same kept =
+    ended old mid new ahead ahead' ends.read Done serving.answering ends.has_read same (replies_alone old mid new ahead serving kept) (omega (arith, ends.place, ends.within))
     (ends.blank, all_read old.input.left mid.input.left serving.answering.taken ends.read serving.answering.consumed ends.all)
 
 -- there is no memory
-no_memory : (settings : Config) (old mid new : Session) (ahead ahead' : Ahead) (read : List ℕ) → Serving settings old mid ahead → HasReadOn (input_of ahead mid.input) read (input_of ahead' new.input)
-    → taken_of ahead + length read ≤ 1073741824 → mid.service ≡ new.service → mid.output ≡ new.output → AnswersPrefix settings old new NoMemory
-no_memory settings old mid new ahead ahead' read serving has_read within same kept =
-    ended settings old mid new ahead ahead' read NoMemory serving.answering has_read same (replies_alone settings old mid new ahead serving kept) within tt
+no_memory : (old mid new : Session) (ahead ahead' : Ahead) (read : List ℕ) → Serving old mid ahead → HasReadOn (input_of ahead mid.input) read (input_of ahead' new.input)
+    → taken_of ahead + length read ≤ 1073741824 → mid.service ≡ new.service → mid.output ≡ new.output → AnswersPrefix old new NoMemory
+no_memory old mid new ahead ahead' read serving has_read within same kept =
+    ended old mid new ahead ahead' read NoMemory serving.answering has_read same (replies_alone old mid new ahead serving kept) within tt
 
 -- what is refused after the answered requests is refused in the whole input
 refused_whole : (left mid : Option (List ℕ)) (ahead : Ahead) (taken : List ℕ) (requests : List Request) (at : ℕ) (refusal : Refusal) → Consumes left mid taken → AreRequests taken requests ahead.bytes → length taken ≡ taken_of ahead → at ≡ ahead.at
@@ -197,34 +196,34 @@ refused_whole (Some bytes) (Some left) ahead taken requests at refusal consumed 
     subst P (sym (ap (drop at) consumed ∙ pending)) refused
 
 -- the end that a refusal is
-refusal_is : (settings : Config) (old mid new : Session) (ahead ahead' : Ahead) (read : List ℕ) (at : ℕ) (refusal : Refusal) (end : End) → Serving settings old mid ahead → HasReadOn (input_of ahead mid.input) read (input_of ahead' new.input)
-    → taken_of ahead + length read ≤ 1073741824 → wire.IsRefusedAt (input_of ahead mid.input) at refusal → mid.service ≡ new.service → Reports mid.output new.output (BadInput at refusal) end → AnswersPrefix settings old new end
-refusal_is settings old mid new ahead ahead' read at refusal end serving has_read within refused same (inl reported) =
-    let P : End → Type 0 = AnswersPrefix settings old new in
-    subst P (sym reported.same) (ended settings old mid new ahead ahead' read (BadInput at refusal) serving.answering has_read same
+refusal_is : (old mid new : Session) (ahead ahead' : Ahead) (read : List ℕ) (at : ℕ) (refusal : Refusal) (end : End) → Serving old mid ahead → HasReadOn (input_of ahead mid.input) read (input_of ahead' new.input)
+    → taken_of ahead + length read ≤ 1073741824 → wire.IsRefusedAt (input_of ahead mid.input) at refusal → mid.service ≡ new.service → Reports mid.output new.output (BadInput at refusal) end → AnswersPrefix old new end
+refusal_is old mid new ahead ahead' read at refusal end serving has_read within refused same (inl reported) =
+    let P : End → Type 0 = AnswersPrefix old new in
+    subst P (sym reported.same) (ended old mid new ahead ahead' read (BadInput at refusal) serving.answering has_read same
     (last_then old.output mid.output new.output (reply_texts serving.answering.exchanges) (last_text (BadInput at refusal)) serving.written serving.writes reported.written) within
     (record {
       place = (let whole = length_then serving.answering.taken read (taken_of ahead) (taken_of ahead + length read) serving.answering.place refl in omega (arith, whole, refused.0, length-append ahead.bytes read));
       refused = refused_whole old.input.left mid.input.left ahead serving.answering.taken (requests_of serving.answering.exchanges) at refusal serving.answering.consumed serving.answering.requests serving.answering.place refused.0 refused.1;
     }))
-refusal_is settings old mid new ahead ahead' read at refusal end serving has_read within refused same (inr unreported) =
-    let P : End → Type 0 = AnswersPrefix settings old new in
-    subst P (sym unreported.memory) (no_memory settings old mid new ahead ahead' read serving has_read within same unreported.output)
+refusal_is old mid new ahead ahead' read at refusal end serving has_read within refused same (inr unreported) =
+    let P : End → Type 0 = AnswersPrefix old new in
+    subst P (sym unreported.memory) (no_memory old mid new ahead ahead' read serving has_read within same unreported.output)
 
 -- a fault of the stream is the end
-pub by_fault : (settings : Config) (old mid new : Session) (ahead ahead' : Ahead) (fault : WireFault) (end : End) → Serving settings old mid ahead → FailsWith (input_of ahead mid.input) fault (input_of ahead' new.input)
-    → mid.service ≡ new.service → Reports mid.output new.output (fault_end fault) end → AnswersPrefix settings old new end
-by_fault settings old mid new ahead ahead' (faults.BadRequest at) end serving fails same reports = refusal_is settings old mid new ahead ahead' fails.read at refusals.Bad end serving fails.has_read fails.within fails.cause same reports
-by_fault settings old mid new ahead ahead' (faults.TooLarge at len) end serving fails same reports = refusal_is settings old mid new ahead ahead' fails.read at (refusals.TooLarge len) end serving fails.has_read fails.within fails.cause same reports
-by_fault settings old mid new ahead ahead' (faults.Unsupported at) end serving fails same reports = refusal_is settings old mid new ahead ahead' fails.read at refusals.Unsupported end serving fails.has_read fails.within fails.cause same reports
-by_fault settings old mid new ahead ahead' faults.ReadFault end serving fails same reported =
-    let P : End → Type 0 = AnswersPrefix settings old new in
-    subst P (sym reported.same) (ended settings old mid new ahead ahead' fails.read ReadFault serving.answering fails.has_read same
+pub by_fault : (old mid new : Session) (ahead ahead' : Ahead) (fault : WireFault) (end : End) → Serving old mid ahead → FailsWith (input_of ahead mid.input) fault (input_of ahead' new.input)
+    → mid.service ≡ new.service → Reports mid.output new.output (fault_end fault) end → AnswersPrefix old new end
+by_fault old mid new ahead ahead' (faults.BadRequest at) end serving fails same reports = refusal_is old mid new ahead ahead' fails.read at refusals.Bad end serving fails.has_read fails.within fails.cause same reports
+by_fault old mid new ahead ahead' (faults.TooLarge at len) end serving fails same reports = refusal_is old mid new ahead ahead' fails.read at (refusals.TooLarge len) end serving fails.has_read fails.within fails.cause same reports
+by_fault old mid new ahead ahead' (faults.Unsupported at) end serving fails same reports = refusal_is old mid new ahead ahead' fails.read at refusals.Unsupported end serving fails.has_read fails.within fails.cause same reports
+by_fault old mid new ahead ahead' faults.ReadFault end serving fails same reported =
+    let P : End → Type 0 = AnswersPrefix old new in
+    subst P (sym reported.same) (ended old mid new ahead ahead' fails.read ReadFault serving.answering fails.has_read same
     (last_then old.output mid.output new.output (reply_texts serving.answering.exchanges) [] serving.written serving.writes reported.written) fails.within
     (rose_from old.input.faults mid.input.faults new.input.faults serving.answering.reads fails.cause.0, fails.cause.1))
-by_fault settings old mid new ahead ahead' faults.InputTooLong end serving fails same reported =
-    let P : End → Type 0 = AnswersPrefix settings old new in
-    subst P (sym reported.same) (ended settings old mid new ahead ahead' fails.read InputTooLong serving.answering fails.has_read same
+by_fault old mid new ahead ahead' faults.InputTooLong end serving fails same reported =
+    let P : End → Type 0 = AnswersPrefix old new in
+    subst P (sym reported.same) (ended old mid new ahead ahead' fails.read InputTooLong serving.answering fails.has_read same
     (last_then old.output mid.output new.output (reply_texts serving.answering.exchanges) (last_text InputTooLong) serving.written serving.writes reported.written) fails.within
     (record {
       within = ahead.bytes ++ fails.cause.prefix;
@@ -237,7 +236,7 @@ by_fault settings old mid new ahead ahead' faults.InputTooLong end serving fails
           );
       unfinished = fails.cause.so;
     }))
-by_fault settings old mid new ahead ahead' faults.NoMemory end serving fails same reported =
-    let P : End → Type 0 = AnswersPrefix settings old new in
-    subst P (sym reported.same) (ended settings old mid new ahead ahead' fails.read NoMemory serving.answering fails.has_read same
+by_fault old mid new ahead ahead' faults.NoMemory end serving fails same reported =
+    let P : End → Type 0 = AnswersPrefix old new in
+    subst P (sym reported.same) (ended old mid new ahead ahead' fails.read NoMemory serving.answering fails.has_read same
     (last_then old.output mid.output new.output (reply_texts serving.answering.exchanges) [] serving.written serving.writes reported.written) fails.within tt)

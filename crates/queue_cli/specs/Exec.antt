@@ -2,8 +2,6 @@
 use Rattle.std.specs.Prelude.{◌≡◌, ◌+◌, ◌≤◌, ℕ, List, [], ◌∷◌, ◌++◌, length, map, drop, IfSome}
 use Rattle.std.specs.List.{flat_map, FoldsTo}
 use Rattle.std.specs.Io.KnownBytes.{Consumes}
-use Rattle.job_states.specs.declared.job.JobRow.{JobRow}
-use Rattle.job_states.specs.declared.job.State.{State}
 use Rattle.sq_outside.specs.Fault.{Rose}
 use Rattle.sq_outside.specs.Streams.{SourceState, SinkState}
 use Rattle.http_wire.specs.declared.head.Refusal.{Refusal}
@@ -14,10 +12,10 @@ use Rattle.http_wire.specs.declared.request.WireFault.TheVariants as faults
 use Rattle.http_wire.specs.declared.reply.Reply.{Reply}
 use Rattle.http_wire.specs.Reply.{reply_text}
 use Rattle.http_wire.specs.Stream.{IsRequest, IsEnd, IsRefused, IsUnfinished, HasReadAll}
-use Rattle.queue_config.specs.declared.config.Config.{Config}
+use Rattle.queue_model.specs.GoodWorld.{IsGood}
 use Rattle.queue_http.specs.Service.{Service, Answers}
 use Rattle.queue_cli.specs.declared.end.End.{End}
-use Rattle.queue_cli.specs.declared.end.End.TheVariants.{Done, BadInput, Usage, BadSettings, ReadFault, WriteFault, NoMemory, InputTooLong}
+use Rattle.queue_cli.specs.declared.end.End.TheVariants.{Done, BadInput, ReadFault, WriteFault, NoMemory, InputTooLong}
 use Rattle.queue_cli.specs.LastText.{last_text, WritesLast}
 
 -- what it works on
@@ -46,9 +44,14 @@ reply_texts exchanges = flat_map (λ exchange. reply_text exchange.reply) exchan
 abbrev pub AreRequests : List ℕ → List Request → List ℕ → Type 0
 AreRequests bytes requests rest = FoldsTo IsRequest bytes requests rest
 
+-- a request is answered, by commands at seat 0, and the world is good then
+pub record IsAnswered (old : Service) (exchange : Exchange) (new : Service) : Type 0 where
+  pub answers : Answers 0 old exchange.request exchange.reply new
+  pub good : IsGood new.running.situation.book.world
+
 -- the requests are answered in turn
-abbrev pub AreAnswered : Config → Service → List Exchange → Service → Type 0
-AreAnswered settings old exchanges new = FoldsTo (λ old exchange new. Answers settings old exchange.request exchange.reply new) old exchanges new
+abbrev pub AreAnswered : Service → List Exchange → Service → Type 0
+AreAnswered old exchanges new = FoldsTo IsAnswered old exchanges new
 
 -- ---- how it ends
 
@@ -103,7 +106,7 @@ most_taken InputTooLong = 1_073_741_825
 most_taken _ = 1_073_741_824
 
 -- the first requests of the input were answered in turn, from the old service to the new one, until the end came
-pub record AnswersPrefix (settings : Config) (old new : Session) (end : End) : Type 0 where
+pub record AnswersPrefix (old new : Session) (end : End) : Type 0 where
   -- what was taken of the input: the answered requests, and then the pending bytes
   pub taken : List ℕ
   pub exchanges : List Exchange
@@ -111,6 +114,6 @@ pub record AnswersPrefix (settings : Config) (old new : Session) (end : End) : T
   pub consumed : Consumes old.input.left new.input.left taken
   pub within : length taken ≤ most_taken end
   pub requests : AreRequests taken (requests_of exchanges) pending
-  pub answers : AreAnswered settings old.service exchanges new.service
+  pub answers : AreAnswered old.service exchanges new.service
   pub written : WritesReplies old.output new.output exchanges end
   pub cause : EndsFor old.input new.input taken pending end

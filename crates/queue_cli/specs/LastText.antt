@@ -7,7 +7,7 @@ use Rattle.sq_outside.specs.Streams.{SinkState}
 use Rattle.http_wire.specs.Reply.{reply_text}
 use Rattle.queue_http.specs.Replies.{fault_reply}
 use Rattle.queue_cli.specs.declared.end.End.{End}
-use Rattle.queue_cli.specs.declared.end.End.TheVariants.{Done, BadInput, Usage, BadSettings, ReadFault, WriteFault, NoMemory, InputTooLong}
+use Rattle.queue_cli.specs.declared.end.End.TheVariants.{BadInput, Usage, BadSettings, NoMemory, InputTooLong}
 
 abbrev pub settings_line : ℕ → List ℕ → List ℕ
 settings_line number key = codes "settings " ++ (decimal number ++ (codes " " ++ (key ++ codes "\n")))

@@ -1,14 +1,16 @@
 -- The whole promise of a run.
 use Rattle.std.specs.Prelude.{◌≡◌, ◌⊎◌, ◌≤◌, ℕ, List, [], length, Option, None, Some, Ok, Err}
-use Rattle.job_states.specs.declared.job.JobRow.{JobRow}
-use Rattle.job_states.specs.declared.job.State.{State}
 use Rattle.sq_outside.specs.Fault.{Rose}
 use Rattle.http_wire.specs.declared.request.Request.{Request}
 use Rattle.http_wire.specs.Stream.{IsEnd}
 use Rattle.queue_config.specs.declared.config.Config.{Config}
 use Rattle.toml_members.specs.declared.fault.SettingsFault.TheVariants as fault
 use Rattle.queue_config.specs.Settings.{config_of}
+use Rattle.queue_engine.specs.Running.{Running}
 use Rattle.queue_http.specs.Service.{service}
+use Rattle.queue_model.specs.GoodWorld.{IsGood}
+use Rattle.queue_model.specs.World.{empty}
+use Rattle.situation_model.specs.Situations.{situation_over}
 use Rattle.queue_cli.specs.Command.{command_of}
 use Rattle.queue_cli.specs.declared.command.Command.{Command}
 use Rattle.queue_cli.specs.declared.command.Command.TheVariants.{Exec}
@@ -37,16 +39,22 @@ pub record EndsWithoutSettings (old new : Outside) (end : End) : Type 0 where
   pub moments : new.moments ≡ old.moments
   pub written : WritesLast old.output new.output [] (last_text end)
 
--- the jobs, the clock, the input and the output of a run
-abbrev pub session_of : List (JobRow × State) → Outside → Session
-session_of jobs o = session (service jobs o.moments) o.input o.output
+-- the engine, the clock, the input and the output of a run
+abbrev pub session_of : Running → Outside → Session
+session_of running o = session (service running o.moments) o.input o.output
 
--- there are settings, and requests are answered by them, from no jobs on
+-- the engine of these settings over an empty world
+abbrev pub started : Config → Running
+started settings = record { settings = settings; situation = situation_over empty }
+
+-- There are settings, and requests are answered by them, from an empty world on. Every world of the run is good: the first
+-- one, and the one after each request.
 pub record AnswersBySettings (old new : Outside) (end : End) : Type 0 where
   pub settings : Config
   pub accepted : HasSettings old.settings new.settings settings
-  pub jobs : List (JobRow × State)
-  pub answers : AnswersPrefix settings (session_of [] old) (session_of jobs new) end
+  pub running : Running
+  pub good : IsGood empty
+  pub answers : AnswersPrefix (session_of (started settings) old) (session_of running new) end
 
 abbrev pub PerformsExec : Outside → Outside → End → Type 0
 PerformsExec old new end = EndsWithoutSettings old new end ⊎ AnswersBySettings old new end

@@ -6,7 +6,8 @@ ghost use Rattle.queue_cli.specs.Run.{Performs, PerformsExec, Runs};
 use crate::End;
 use crate::exec::exec;
 use crate::settings::read_settings;
-use queue_http::JobList;
+use queue_engine::Engine;
+use queue_model::empty_is_good;
 use sq_outside::{Clock, Sink, Source};
 use std::alloc::Global;
 
@@ -91,8 +92,9 @@ fn perform_exec<S1: Source, S2: Source, K: Sink, C: Clock>(
 {
     match read_settings(alloc, config) {
         Ok(settings) => {
-            let mut jobs = JobList::new(alloc);
-            exec(alloc, &settings, &mut jobs, input, output, clock)
+            empty_is_good();
+            let mut engine = Engine::new(alloc, settings);
+            exec(alloc, &mut engine, input, output, clock)
         }
         Err(end) => end.report(alloc, output),
     }

@@ -1,5 +1,6 @@
 //! The settings of a run, read from their source.
 ghost use Rattle.std.specs.Prelude.{IfOk, IfErr};
+ghost use Rattle.queue_config.specs.Ranges.{IsConfig};
 ghost use Rattle.queue_cli.specs.Settings.{TakesPrefix, HasSettings, LacksSettings};
 
 use crate::End;
@@ -13,6 +14,7 @@ const CHUNK: usize = 8192;
 /// Reads the settings, or answers how a run ends that has none.
 pub(crate) fn read_settings<S: Source>(alloc: Global, source: &mut S) -> Result<Config, End>
     ensures settings { IfOk result (HasSettings (S.source_state source.old) (S.source_state source.new)) }
+    ensures ranges { IfOk result IsConfig }
     ensures cause { IfErr result (LacksSettings (S.source_state source.old) (S.source_state source.new)) }
 {
     let text = read_prefix(alloc, source, Config::MAX_LEN + 1)?;

@@ -1,3 +1,5 @@
+pub mod Asked
+pub mod Ended
+pub mod Ranges
 pub mod Replies
-pub mod Routes
 pub mod Service

@@ -1,12 +1,9 @@
-//! The job system's HTTP service over a list of jobs: what a request asks for, and what is replied.
+//! The job system's HTTP service over an engine: what a request asks for, and what is done and replied.
 #![tactic(auto)]
 
-mod job_list;
-mod routes;
+mod asked;
+mod ranges;
 mod service;
-#[cfg(test)]
-mod tests;
 
-pub use job_list::JobList;
 pub use queue_replies::fault_reply;
 pub use service::answer;

@@ -1,7 +1,6 @@
-use Rattle.std.proofs.Common.{◌≡◌, ◌∙◌, inl, refl, ap, sym, subst}
+use Rattle.std.proofs.Common.{◌∙◌, inl, refl, ap}
 use Rattle.http_wire.specs.Reply.{reply_text}
-use Rattle.queue_cli.specs.declared.end.End.{End}
-use Rattle.queue_cli.specs.LastText.{settings_line, Reports}
+use Rattle.queue_cli.specs.LastText.{settings_line}
 use Rattle.queue_cli.proofs.Ends.{last_written}
 use Rattle.queue_cli.proofs.end.End.report.Goals as goal
 

@@ -1,0 +1,4 @@
+pub mod Built
+pub mod Calls
+pub mod Coded
+pub mod Running
