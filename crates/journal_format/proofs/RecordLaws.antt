@@ -19,7 +19,7 @@ seam p q x y len e = (
   sym (drop-append_seam p x) ∙ ap (drop (length p)) e ∙ ap (λ (n : ℕ). drop n (q ++ y)) len ∙ drop-append_seam q y,
 )
 
-frame_once : (p q x y : List ℕ) → IsLength p → IsLength q → framed p ++ x ≡ framed q ++ y → (p ≡ q) × (x ≡ y)
+pub frame_once : (p q x y : List ℕ) → IsLength p → IsLength q → framed p ++ x ≡ framed q ++ y → (p ≡ q) × (x ≡ y)
 frame_once p q x y fit_p fit_q e =
     let L = number_lawful 4 1 16_777_216 (lit≤ tt) (lit< tt) in
     let one = L.again (length p) (p ++ x) fit_p in

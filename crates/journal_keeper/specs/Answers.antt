@@ -24,6 +24,18 @@ pub record HasOpenCause {T : Type 0} (before now : ℕ) (result : Result T OpenF
   pub later : before ≤ now
   pub failed : IfErr result (IsBlamed before now)
 
+-- of a record that isn't read it is never said that the file is no journal
+abbrev pub IsRecordCause : ℕ → ℕ → OpenFault → Type 0
+IsRecordCause before now (NotAJournal file) = ⊥
+IsRecordCause before now (Version file n) = ⊥
+IsRecordCause before now (BadRecord at) = Unit {0}
+IsRecordCause before now DiskFault = Rose before now
+IsRecordCause before now NoMemory = Unit {0}
+
+pub record HasRecordCause {T : Type 0} (before now : ℕ) (result : Result T OpenFault) : Type 0 where
+  pub later : before ≤ now
+  pub failed : IfErr result (IsRecordCause before now)
+
 -- a read fails by the disk or for want of memory
 abbrev pub IsReadCause : ℕ → ℕ → OpenFault → Type 0
 IsReadCause before now (NotAJournal file) = ⊥

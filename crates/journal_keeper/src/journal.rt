@@ -80,12 +80,12 @@ fn make_kept<D: Disk>(disk: &mut D) -> Result<(), Failed>
 }
 
 impl Journal {
-    ghost use Rattle.std.specs.Prelude.{◌≡◌, [], true, false, drop, Ok, Err, None, IfOk, IfErr, IfSome, OnOk};
+    ghost use Rattle.std.specs.Prelude.{◌≡◌, ◌<◌, ◌^◌, [], true, false, drop, Ok, Err, None, IfOk, IfErr, IfSome, OnOk};
     ghost use Rattle.journal_format.specs.Records.{is_closed};
     ghost use Rattle.journal_keeper.specs.Stages.{Settles, Finishes, Adds};
     ghost use Rattle.sq_outside.specs.Disk.{nth};
     ghost use Rattle.sq_outside.specs.Fault.{HasCause};
-    ghost use Rattle.journal_keeper.specs.Answers.{HasOpenCause, KeepsAll, IsOpened, IsOpenFault, ReadsNext, Appends, Repairs, is_end};
+    ghost use Rattle.journal_keeper.specs.Answers.{HasOpenCause, HasRecordCause, KeepsAll, IsOpened, IsOpenFault, ReadsNext, Appends, Repairs, is_end};
     ghost use Rattle.journal_keeper.specs.Records.{IsRecord, payload_of};
     ghost use Rattle.journal_keeper.specs.Stands.{Stands, IsStanding, is_read};
     ghost use Rattle.journal_keeper.specs.Writes.{IsOtherKept};
@@ -123,6 +123,14 @@ impl Journal {
         }
     }
 
+    /// The place in the file at which the next record is read, or appended.
+    pub fn end(&self) -> u64
+        ensures place { result ≡ self.now.end }
+        ensures range { result < 2 ^ 63 }
+    {
+        self.end
+    }
+
     /// The payload of the next record, or `None` where the gate at this place isn't open. Before its first `None` it closes that
     /// gate by `00`; from then on it does nothing.
     pub fn next_record<D: Disk>(&mut self, disk: &mut D) -> Result<Option<Bytes>, OpenFault>
@@ -130,8 +138,9 @@ impl Journal {
         ensures next { is_read self.old.stage ≡ false → ReadsNext self.old (D.history disk.old) result self.new (D.history disk.new) }
         ensures end { is_read self.old.stage ≡ true → (result ≡ Ok None) × (self.new ≡ self.old) × (D.history disk.new ≡ D.history disk.old) }
         ensures read { is_read self.new.stage ≡ is_end result }
+        ensures further { IfOk result (λ r. IfSome r (λ _. self.old.end < self.new.end)) }
         ensures standing { IsStanding self.new (D.history disk.new) }
-        ensures cause { HasOpenCause (D.faults disk.old) (D.faults disk.new) result }
+        ensures cause { HasRecordCause (D.faults disk.old) (D.faults disk.new) result }
     {
         match self.stage {
             Stage::Ready => Ok(None),
@@ -148,7 +157,7 @@ impl Journal {
     fn settle<D: Disk>(&mut self, disk: &mut D) -> Result<(), OpenFault>
         requires { self.old.stage ≡ Stage.Unsynced }
         ensures settled { Settles self.old (D.history disk.old) result self.new (D.history disk.new) }
-        ensures cause { HasOpenCause (D.faults disk.old) (D.faults disk.new) result }
+        ensures cause { HasRecordCause (D.faults disk.old) (D.faults disk.new) result }
     {
         disk.sync(0)?;
         self.stage = Stage::Reading;
@@ -161,7 +170,8 @@ impl Journal {
         requires stage { self.old.stage ≡ Stage.Reading }
         requires standing { IsStanding self.old (D.history disk.old) }
         ensures next { ReadsNext self.old (D.history disk.old) result self.new (D.history disk.new) }
-        ensures cause { HasOpenCause (D.faults disk.old) (D.faults disk.new) result }
+        ensures further { IfOk result (λ r. IfSome r (λ _. self.old.end < self.new.end)) }
+        ensures cause { HasRecordCause (D.faults disk.old) (D.faults disk.new) result }
     {
         match self.read_record(disk)? {
             Some(payload) => Ok(Some(payload)),
@@ -179,7 +189,7 @@ impl Journal {
         requires closed { IfSome (D.history disk.old) (λ h. is_closed (drop self.old.end h.now.0.reads) ≡ true) }
         ensures finished { Finishes self.old (D.history disk.old) result self.new (D.history disk.new) }
         ensures fault { IfErr result (λ fault. fault ≡ OpenFault.DiskFault) }
-        ensures cause { HasOpenCause (D.faults disk.old) (D.faults disk.new) result }
+        ensures cause { HasRecordCause (D.faults disk.old) (D.faults disk.new) result }
     {
         self.stage = Stage::Unsynced;
         self.window = Window::new(self.alloc);

@@ -1,7 +1,7 @@
 //! Reading records.
-ghost use Rattle.std.specs.Prelude.{◌≡◌, ◌+◌, ◌^◌, ◌<◌, ◌≤◌, IfSome};
+ghost use Rattle.std.specs.Prelude.{◌≡◌, ◌+◌, ◌^◌, ◌<◌, ◌≤◌, IfOk, IfSome};
 ghost use Rattle.sq_outside.specs.Disk.{nth};
-ghost use Rattle.journal_keeper.specs.Answers.{HasOpenCause};
+ghost use Rattle.journal_keeper.specs.Answers.{HasRecordCause};
 ghost use Rattle.journal_keeper.specs.Reading.{TakesPayload, ReadsRecord};
 
 use crate::frame::{Frame, frame_of};
@@ -11,15 +11,16 @@ use job_states::Bytes;
 use sq_outside::{Disk, GREATEST_LENGTH};
 
 impl Journal {
-    ghost use Rattle.std.specs.Prelude.{◌≡◌, ◌+◌, ◌^◌, ◌<◌, ◌≤◌, IfSome};
+    ghost use Rattle.std.specs.Prelude.{◌≡◌, ◌+◌, ◌^◌, ◌<◌, ◌≤◌, IfOk, IfSome};
     ghost use Rattle.sq_outside.specs.Disk.{nth};
-    ghost use Rattle.journal_keeper.specs.Answers.{HasOpenCause};
+    ghost use Rattle.journal_keeper.specs.Answers.{HasRecordCause};
     ghost use Rattle.journal_keeper.specs.Reading.{TakesPayload, ReadsRecord};
 
     /// The payload of the record at the journal's place, or `None` where its gate is closed.
     pub(crate) fn read_record<D: Disk>(&mut self, disk: &mut D) -> Result<Option<Bytes>, OpenFault>
         ensures read { ReadsRecord self.old (D.history disk.old) result self.new (D.history disk.new) }
-        ensures cause { HasOpenCause (D.faults disk.old) (D.faults disk.new) result }
+        ensures further { IfOk result (λ r. IfSome r (λ _. self.old.end < self.new.end)) }
+        ensures cause { HasRecordCause (D.faults disk.old) (D.faults disk.new) result }
     {
         self.window.fill(disk, self.end, 5)?;
         match frame_of(self.window.as_slice()) {
@@ -36,7 +37,8 @@ impl Journal {
     fn read_payload<D: Disk>(&mut self, disk: &mut D, n: usize) -> Result<Bytes, OpenFault>
         requires { n ≤ 16_777_216 }
         ensures taken { TakesPayload n self.old (D.history disk.old) result self.new (D.history disk.new) }
-        ensures cause { HasOpenCause (D.faults disk.old) (D.faults disk.new) result }
+        ensures further { IfOk result (λ _. self.old.end < self.new.end) }
+        ensures cause { HasRecordCause (D.faults disk.old) (D.faults disk.new) result }
     {
         if self.end + 5 + n as u64 > GREATEST_LENGTH {
             return Err(OpenFault::BadRecord { at: self.end });
@@ -53,7 +55,8 @@ impl Journal {
         requires short { n + 5 ≤ 65_536 }
         requires fits { self.old.end + 5 + n < 2 ^ 63 }
         ensures taken { TakesPayload n self.old (D.history disk.old) result self.new (D.history disk.new) }
-        ensures cause { HasOpenCause (D.faults disk.old) (D.faults disk.new) result }
+        ensures further { IfOk result (λ _. self.old.end < self.new.end) }
+        ensures cause { HasRecordCause (D.faults disk.old) (D.faults disk.new) result }
     {
         self.window.fill(disk, self.end, n + 5)?;
         let ahead = self.window.as_slice();
@@ -70,7 +73,8 @@ impl Journal {
     fn read_long<D: Disk>(&mut self, disk: &mut D, n: usize) -> Result<Bytes, OpenFault>
         requires fits { self.old.end + 5 + n < 2 ^ 63 }
         ensures taken { TakesPayload n self.old (D.history disk.old) result self.new (D.history disk.new) }
-        ensures cause { HasOpenCause (D.faults disk.old) (D.faults disk.new) result }
+        ensures further { IfOk result (λ _. self.old.end < self.new.end) }
+        ensures cause { HasRecordCause (D.faults disk.old) (D.faults disk.new) result }
     {
         let at = self.end + 5;
         if disk.len(0)? < at + n as u64 {
