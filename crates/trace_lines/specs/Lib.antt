@@ -1,0 +1,5 @@
+pub mod Words
+pub mod Jobs
+pub mod Lines
+pub mod Printed
+pub mod Ranges
