@@ -28,6 +28,7 @@ POST /processes/9/poll {"limit":1,"queues":["*"]} => 404 {"error":"no_such_proce
 POST /processes/1/poll {"limit":0,"queues":["*"]} => 400 {"error":"wrong_kind","member":"limit"}
 POST /jobs/bulk [{"job_class":"A","job_id":"1"},{"job_class":"Z","job_id":"2"}] => 422 {"class":"Z","error":"unknown_class","index":1}
 POST /jobs {"job_class":"A","job_id":"5"} => 201 {"id":5,"state":"ready"}
+POST /jobs/bulk [{"job_class":"A","job_id":"6"},{"job_class":"A","job_id":"7"}] => 201 {"jobs":[{"id":6,"state":"ready"},{"id":7,"state":"ready"}]}
 GET /jobs  => 501 {"error":"not_built"}"#;
 
 const CLAIMS: &str = r#"POST /jobs {"job_class":"A","job_id":"1"} => 201 {"id":1,"state":"ready"}
