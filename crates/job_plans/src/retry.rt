@@ -3,14 +3,14 @@ ghost use Rattle.std.specs.Prelude.{◌≡◌, Some};
 ghost use Rattle.job_states.specs.Judged.{Gives};
 ghost use Rattle.job_states.specs.States.{is_failed};
 ghost use Rattle.job_states.specs.declared.command.Command.TheVariants as command;
-ghost use Rattle.plan_model.specs.Drafts as model;
 ghost use Rattle.plan_model.specs.JobCommands.{job_plan};
 ghost use Rattle.plan_model.specs.Refusals as refusals;
 ghost use Rattle.plan_scenes.specs.Causes.{unless};
 ghost use Rattle.queue_model.specs.Map as map;
 
 use book_core::Plan;
-use job_states::{Answer, Copied, JobId, Outcome, Put, Refused, State, Transition};
+use job_states::{Answer, Copied, JobId, Refused, State, Transition};
+use plan_drafts::outcome_of;
 use plan_model::pushes_are_allowed;
 use plan_scenes::{Scene, plans_are_told, refusals_come_first};
 use queue_model::Job;
@@ -66,15 +66,4 @@ fn semaphore_closed(scene: &Scene, id: JobId, job: &Job) -> Result<(), Refused>
         return Err(Refused::SemaphoreClosed { key });
     }
     Ok(())
-}
-
-fn outcome_of(put: Put) -> Outcome
-    ensures { result ≡ model.outcome_of put }
-{
-    match put {
-        Put::Ready(_) => Outcome::Ready,
-        Put::Scheduled(_) => Outcome::Scheduled,
-        Put::Blocked(_) => Outcome::Blocked,
-        Put::Away => Outcome::Discarded,
-    }
 }

@@ -5,8 +5,6 @@
 #![tactic(auto)]
 
 mod selected;
-#[cfg(test)]
-mod tests;
 mod waiting;
 
 pub use selected::Selected;

@@ -32,8 +32,8 @@ impl<'a> Draft<'a> {
     }
 }
 
-// What becomes of a new job that is put there.
-fn outcome_of(put: Put) -> Outcome
+/// What becomes of a job that is put there.
+pub fn outcome_of(put: Put) -> Outcome
     ensures { result ≡ model.outcome_of put }
 {
     match put {

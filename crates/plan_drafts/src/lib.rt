@@ -7,8 +7,7 @@ mod enqueue;
 mod finish;
 mod push;
 mod pushed;
-#[cfg(test)]
-mod tests;
 
 pub use draft::Draft;
+pub use enqueue::outcome_of;
 pub use pushed::Pushed;
