@@ -9,8 +9,6 @@ mod counts;
 mod look_ups;
 mod opened;
 mod plan;
-#[cfg(test)]
-mod tests;
 
 pub use book::Book;
 pub use plan::Plan;

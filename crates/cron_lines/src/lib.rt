@@ -13,6 +13,3 @@ pub use parse::lines_are_spelled;
 pub use phrases::phrases_are_spelled;
 pub use times::{Line, Schedule, ScheduleFault, moments_end_with_a_day};
 pub use values::Values;
-
-#[cfg(test)]
-mod tests;

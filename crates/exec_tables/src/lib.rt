@@ -14,8 +14,6 @@ mod places;
 mod rows;
 mod runs;
 mod tables;
-#[cfg(test)]
-mod tests;
 mod write;
 
 pub use tables::Tables;

@@ -7,8 +7,6 @@ mod head;
 mod read;
 mod reply;
 mod request;
-#[cfg(test)]
-mod tests;
 
 pub use carry::Carry;
 pub use head::{MAX_BODY, MAX_FIELDS, MAX_HEAD, Refusal};

@@ -9,8 +9,6 @@ mod fault;
 mod float;
 mod kind;
 mod member;
-#[cfg(test)]
-mod tests;
 mod written;
 
 pub use envelope::Envelope;

@@ -15,8 +15,6 @@ mod moment;
 mod name;
 mod no_memory;
 mod row;
-#[cfg(test)]
-mod tests;
 mod text;
 mod transition;
 

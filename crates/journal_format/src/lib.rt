@@ -21,6 +21,3 @@ pub use file_header::{Heading, header, read_header};
 pub use laws::{one_list_of_records, one_text};
 pub use read::read_tx;
 pub use write::write_tx;
-
-#[cfg(test)]
-mod tests;

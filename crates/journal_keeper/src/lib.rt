@@ -15,6 +15,3 @@ mod window;
 pub use fault::{DiskFault, OpenFault};
 pub use journal::{Journal, Stage};
 pub use laws::{kept_laws, one_recovery, shape_kept, stands_kept};
-
-#[cfg(test)]
-mod tests;

@@ -12,8 +12,6 @@ mod read;
 mod retry;
 mod tables;
 mod task;
-#[cfg(test)]
-mod tests;
 mod whole;
 mod worker;
 mod wrong;

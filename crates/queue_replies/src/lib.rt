@@ -5,8 +5,6 @@ mod answers;
 mod faults;
 mod json;
 mod refusals;
-#[cfg(test)]
-mod tests;
 
 pub use answers::reply_of;
 pub use faults::{

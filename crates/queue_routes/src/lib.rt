@@ -5,8 +5,6 @@ mod ask;
 mod bodies;
 mod fault;
 mod routes;
-#[cfg(test)]
-mod tests;
 
 pub use ask::{Ask, ask_of};
 pub use fault::{BodyFault, BodyMember};

@@ -5,8 +5,6 @@
 
 mod groups;
 mod list;
-#[cfg(test)]
-mod tests;
 
 pub use groups::polled_once;
 pub use list::{ListFault, QueueList};

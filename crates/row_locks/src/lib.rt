@@ -7,8 +7,6 @@ mod held;
 mod laws;
 mod locks;
 mod seats;
-#[cfg(test)]
-mod tests;
 
 pub use laws::who_holds;
 pub use locks::{Locks, TakeFault};

@@ -4,7 +4,5 @@
 #![tactic(auto)]
 
 mod sem;
-#[cfg(test)]
-mod tests;
 
 pub use sem::{Sem, expired, give, give_back, gives, is_closed, take};

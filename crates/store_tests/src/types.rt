@@ -1,4 +1,7 @@
-use crate::*;
+use job_states::{
+    Bytes, Copied, Counted, JobRow, LAST, Limited, List, Name, Put, Row, Text, Transaction,
+    Transition, later,
+};
 use std::alloc::Global;
 use std::test::Fail;
 

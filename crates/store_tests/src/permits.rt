@@ -1,4 +1,4 @@
-use crate::*;
+use semaphores::{Sem, expired, give, give_back, gives, is_closed, take};
 
 const THREE_MINUTES: u64 = 180_000_000;
 

@@ -3,8 +3,8 @@ ghost use Rattle.sq_outside.specs.Disk.{nth};
 ghost use Rattle.journal_keeper.specs.Records.{IsRecord};
 ghost use Rattle.journal_keeper.specs.Stands.{IsStanding, is_read};
 
-use crate::{Journal, OpenFault};
 use job_states::Bytes;
+use journal_keeper::{Journal, OpenFault};
 use sq_outside::{Disk, MemDisk};
 use std::alloc::Global;
 use std::test::Fail;

@@ -1,7 +1,7 @@
-use crate::*;
 use http::Method;
 use http_wire::Request;
 use job_states::{Bytes, Command, Text};
+use queue_routes::{Ask, BodyFault, ask_of};
 use std::alloc::{AllocError, Global};
 use std::test::Fail;
 

@@ -1,7 +1,7 @@
 ghost use Rattle.queue_config.specs.Ranges.{IsConfig};
 
-use crate::*;
 use job_states::{Arg, Counted, Name, Text};
+use queue_config::{Act, Config, KeyFault, SettingsFault};
 use std::alloc::{AllocError, Global};
 use std::process::Abort;
 use std::slice;

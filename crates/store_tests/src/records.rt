@@ -1,4 +1,4 @@
-use super::*;
+use journal_format::{Heading, ReadFault, header, read_header, read_tx, write_tx};
 use std::test::*;
 
 /// The first enqueue, at moment 1000: up to the `job_` of its envelope, and the rest.

@@ -1,4 +1,4 @@
-use crate::{Schedule, ScheduleFault};
+use cron_lines::{Schedule, ScheduleFault};
 use job_states::LAST;
 use std::process::Abort;
 

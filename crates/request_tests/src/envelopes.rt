@@ -1,4 +1,4 @@
-use crate::*;
+use job_envelope::{Envelope, EnvelopeFault};
 use job_states::{Arg, NewJob};
 use serde_json::Value;
 use std::alloc::{AllocError, Global};

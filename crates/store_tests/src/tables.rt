@@ -1,4 +1,4 @@
-use crate::Tables;
+use exec_tables::Tables;
 use job_states::{Bytes, JobRow, Kind, List, Name, Put, Transaction, Transition};
 use std::alloc::Global;
 use std::test::Fail;

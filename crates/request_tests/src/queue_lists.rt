@@ -1,8 +1,8 @@
 ghost use Rattle.std.specs.Prelude.{IfOk};
 ghost use Rattle.queue_selector.specs.Groups.{AreSorted};
 
-use crate::*;
 use job_states::{List, Name, Text};
+use queue_selector::QueueList;
 use std::alloc::Global;
 use std::test::Fail;
 

@@ -1,7 +1,7 @@
-use crate::{envelope_fault, fault_reply, reply_disk, reply_of, reply_refused};
 use http_wire::{Refusal, Reply};
 use job_envelope::EnvelopeFault;
 use job_states::{Answer, List, Made, Name, Outcome, Polled, Refused, Stage, Text};
+use queue_replies::{envelope_fault, fault_reply, reply_disk, reply_of, reply_refused};
 use std::alloc::Global;
 use std::process::Abort;
 use std::test::Fail;

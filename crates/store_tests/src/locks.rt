@@ -1,5 +1,5 @@
-use crate::*;
 use job_states::{Mode, Name, Row, Text};
+use row_locks::Locks;
 use std::alloc::Global;
 use std::test::Fail;
 

@@ -17,7 +17,7 @@ use Rattle.plan_model.specs.Books.{Book}
 use Rattle.plan_model.specs.GoodBook.{IsGoodBook, MayOpen}
 use Rattle.plan_model.specs.Plans.{Plan}
 use Rattle.book_core.specs.GoodPlan.{plan}
-use Rattle.book_core.proofs.tests.open_pause.Goals as goal
+use Rattle.store_tests.proofs.books.open_pause.Goals as goal
 
 named : (queue : List ℕ) → IsName queue → is_name queue ≡ true
 named queue name = grind (arith, nat_tests)

@@ -3,7 +3,7 @@ ghost use Rattle.job_states.specs.declared.transition.Transition.TheVariants as 
 ghost use Rattle.job_states.specs.declared.answer.Answer.TheVariants as answer;
 ghost use Rattle.book_core.specs.GoodPlan.{plan};
 
-use crate::{Book, Plan};
+use book_core::{Book, Plan};
 use exec_tables::Tables;
 use job_states::{Answer, List, Mode, Name, Refused, Row, Transaction, Transition};
 use std::alloc::Global;

@@ -1,4 +1,4 @@
-use crate::{Carry, WireFault, read_request};
+use http_wire::{Carry, WireFault, read_request};
 use sq_outside::{MemSource, Source, SureSource, Trickle};
 use std::alloc::Global;
 use std::test::Fail;
