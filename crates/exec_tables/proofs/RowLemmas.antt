@@ -89,6 +89,18 @@ module _ {K X : Type 0} {R : K → K → Ordering} (o : IsTotalOrder R) where
       none_passes k [] a = tt
       none_passes k (e ∷ es) a = (a.0, none_passes k es a.1)
 
+  -- the map has as many values as the table has rows
+  pub length_entries : IsAntisymmetric R → (eq : K → K → Bool) → ((a b : K) → eq a b ≡ is_eq (R a b)) → (es : List (K × X)) → IsDistinct eq (keys_of es) → length (values (from_entries {R = R} es)) ≡ length es
+  length_entries exact eq ties es d = sym (ones (values (from_entries {R = R} es))) ∙ sum_entries exact eq ties (λ _. 1) es d ∙ ones (values_of es) ∙ length_values es
+    where
+      ones : {A : Type 0} (xs : List A) → sum_by (λ _. 1) xs ≡ length xs
+      ones [] = refl
+      ones (x ∷ xs) = let cons = sum_by-cons (λ _. 1) x xs in let rest = ones xs in omega (arith, cons, rest)
+
+      length_values : {A B : Type 0} (es : List (B × A)) → length (values_of es) ≡ length es
+      length_values [] = refl
+      length_values (e ∷ es) = let rest = length_values es in omega (arith, rest)
+
 -- ---- rows by number
 
 pub number_ties : (a b : ℕ) → eqb a b ≡ is_eq (nat_cmp a b)
@@ -119,15 +131,7 @@ pub number_sum : {X : Type 0} (f : X → ℕ) (es : List (ℕ × X)) → IsDisti
 number_sum = sum_entries nat_cmp_total nat_cmp-IsAntisymmetric eqb number_ties
 
 pub number_length : {X : Type 0} (es : List (ℕ × X)) → IsDistinct eqb (keys_of es) → length (values (from_entries {R = nat_cmp} es)) ≡ length es
-number_length es d = sym (ones (values (from_entries {R = nat_cmp} es))) ∙ number_sum (λ _. 1) es d ∙ ones (values_of es) ∙ length_values es
-  where
-    ones : {A : Type 0} (xs : List A) → sum_by (λ _. 1) xs ≡ length xs
-    ones [] = refl
-    ones (x ∷ xs) = let cons = sum_by-cons (λ _. 1) x xs in let rest = ones xs in omega (arith, cons, rest)
-
-    length_values : {A : Type 0} (es : List (ℕ × A)) → length (values_of es) ≡ length es
-    length_values [] = refl
-    length_values (e ∷ es) = let rest = length_values es in omega (arith, rest)
+number_length = length_entries nat_cmp_total nat_cmp-IsAntisymmetric eqb number_ties
 
 pub mapped_none : {A B : Type 0} (f : A → B) (o : Option A) → is_some o ≡ false → option_map f o ≡ None
 mapped_none f None e = refl

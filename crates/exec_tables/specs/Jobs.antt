@@ -4,12 +4,14 @@ use Rattle.std.specs.List.{count_by}
 use Rattle.std.specs.Option.{unwrap_or}
 use Rattle.std.specs.Ordering.{nat_cmp}
 use Rattle.job_states.specs.Ranges.{is_limited}
-use Rattle.job_states.specs.States.{permit_of}
+use Rattle.job_states.specs.States.{permit_of, stage_of, is_blocked, is_claimed, is_failed, is_finished, is_ready, is_scheduled}
+use Rattle.job_states.specs.declared.job.Stage.{Stage}
+use Rattle.job_states.specs.declared.job.Stage.TheVariants as stage
 use Rattle.job_states.specs.declared.job.State.{State}
 use Rattle.job_states.specs.declared.job.State.TheVariants.{Claimed}
 use Rattle.queue_model.specs.Map as map
 use Rattle.queue_model.specs.Sights.{set}
-use Rattle.queue_model.specs.World.{is_claimed_by, is_holder}
+use Rattle.queue_model.specs.World.{World, is_claimed_by, is_holder}
 use Rattle.queue_model.specs.declared.Job.{Job}
 
 -- how many of these jobs a process has claimed
@@ -19,6 +21,23 @@ claims_in jobs pid = count_by (is_claimed_by pid) (map.values jobs)
 -- how many of these jobs hold a permit of this key and generation
 abbrev pub holders_in : map.Map nat_cmp Job → List ℕ → ℕ → ℕ
 holders_in jobs key generation = count_by (is_holder key generation) (map.values jobs)
+
+-- is a job at this stage?
+abbrev pub is_at : Stage → Job → Bool
+is_at stage.Scheduled j = is_scheduled (Some (stage_of j.state))
+is_at stage.Ready j = is_ready (Some (stage_of j.state))
+is_at stage.Blocked j = is_blocked (Some (stage_of j.state))
+is_at stage.Claimed j = is_claimed (Some (stage_of j.state))
+is_at stage.Failed j = is_failed (Some (stage_of j.state))
+is_at stage.Finished j = is_finished (Some (stage_of j.state))
+
+-- how many of these jobs are at this stage
+abbrev pub at_stage_in : map.Map nat_cmp Job → Stage → ℕ
+at_stage_in jobs s = count_by (is_at s) (map.values jobs)
+
+-- how many jobs of the world are
+abbrev pub at_stage : Stage → World → ℕ
+at_stage s w = at_stage_in w.jobs s
 
 -- one of a count, or none
 abbrev pub bit : Bool → ℕ

@@ -10,14 +10,15 @@ ghost use Rattle.queue_model.specs.Map as map;
 ghost use Rattle.queue_model.specs.Transitions.{counted};
 ghost use Rattle.queue_model.specs.World.{job};
 ghost use Rattle.queue_model.specs.declared.Job.{Job as Row};
-ghost use Rattle.exec_tables.specs.Jobs.{claimant_at, claimant_of, claims_in, count_in, counts_of, holders_in, lowered, newer, raised};
+ghost use Rattle.exec_tables.specs.Jobs as spec;
+ghost use Rattle.exec_tables.specs.Jobs.{at_stage_in, claimant_at, claimant_of, claims_in, count_in, counts_of, holders_in, lowered, newer, raised};
 ghost use Rattle.queue_model.specs.World as world;
 ghost use Rattle.transition_table.specs.Seen.{job_seen};
 
 use crate::rows::{find, put, remove, replace, reserve};
 use indexmap::IndexMap;
 use indexmap::map::Iter;
-use job_states::{Counters, JobId, NoMemory, Pid, State, Text};
+use job_states::{Counters, JobId, NoMemory, Pid, Stage, State, Text};
 use queue_model::Job;
 use std::alloc::Global;
 use std::marker::Model;
@@ -116,6 +117,20 @@ impl Jobs {
             }
         }
         holders
+    }
+
+    /// How many of them are at this stage. It passes over all.
+    pub fn at_stage(&self, stage: Stage) -> u64
+        ensures { result ≡ at_stage_in self.now.rows stage }
+    {
+        let _jobs = self.rows.len();
+        let mut there = 0;
+        for (_, job) in self.rows.iter() {
+            if is_at(job, stage) {
+                there += 1;
+            }
+        }
+        there
     }
 
     /// Writes a job in its place.
@@ -219,6 +234,21 @@ fn is_holder(job: &Job, key: &Text, generation: u64) -> bool
         job.state.permit(),
         key,
         generation,
+    )
+}
+
+// Is the job at this stage?
+fn is_at(job: &Job, stage: Stage) -> bool
+    ensures { result ≡ spec.is_at stage job.now }
+{
+    matches!(
+        (stage, job.state.stage()),
+        (Stage::Scheduled, Stage::Scheduled)
+            | (Stage::Ready, Stage::Ready)
+            | (Stage::Blocked, Stage::Blocked)
+            | (Stage::Claimed, Stage::Claimed)
+            | (Stage::Failed, Stage::Failed)
+            | (Stage::Finished, Stage::Finished)
     )
 }
 

@@ -4,6 +4,7 @@ ghost use Rattle.std.specs.Option.{option_copied};
 ghost use Rattle.queue_model.specs.Map as map;
 ghost use Rattle.queue_model.specs.World.{claims, holders};
 ghost use Rattle.transition_table.specs.Seen.{job_seen};
+ghost use Rattle.exec_tables.specs.Jobs.{at_stage};
 ghost use Rattle.exec_tables.specs.Names.{AreSorted};
 ghost use Rattle.exec_tables.specs.Next.{Listed, by_key, by_ready_queue};
 
@@ -11,7 +12,7 @@ use crate::Tables;
 use crate::names::sorted_names;
 use crate::places::ready_queue;
 use crate::rows::find;
-use job_states::{JobId, Moment, Name, NoMemory, Pid, Text};
+use job_states::{JobId, Moment, Name, NoMemory, Pid, Stage, Text};
 use queue_model::{Job, Numbers, Process};
 use semaphores::Sem;
 use transition_table::Found;
@@ -44,6 +45,13 @@ impl Tables {
         ensures { length (map.values self.now.world.jobs) < 2 ^ 63 }
     {
         self.jobs.len();
+    }
+
+    /// How many jobs are at this stage. It passes over all jobs.
+    pub fn at_stage(&self, stage: Stage) -> u64
+        ensures { result ≡ at_stage stage self.now.world }
+    {
+        self.jobs.at_stage(stage)
     }
 
     /// How many jobs the process has claimed.
@@ -80,6 +88,13 @@ impl Tables {
         ensures { result ≡ length (map.values self.now.world.processes) }
     {
         self.processes.len() as u64
+    }
+
+    /// How many semaphores there are.
+    pub fn semaphores(&self) -> u64
+        ensures { result ≡ length (map.values self.now.world.semaphores) }
+    {
+        self.semaphores.len() as u64
     }
 
     /// Is the queue paused?
