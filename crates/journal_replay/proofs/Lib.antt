@@ -1,4 +1,5 @@
 pub mod Faults
+pub mod KeptFor
 pub mod Opened
 pub mod Replayed
 pub mod Runs

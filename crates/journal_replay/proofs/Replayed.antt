@@ -1,5 +1,5 @@
 -- A replay, transaction by transaction.
-use Rattle.std.proofs.Common.{◌≡◌, false, List, [], ◌∷◌, ◌++◌, Option, None, Some, is_some, ap, ◌∙◌, refl}
+use Rattle.std.proofs.Common.{◌≡◌, true, false, List, [], ◌∷◌, ◌++◌, Option, None, Some, is_some, ap, ◌∙◌, sym, refl}
 use Rattle.std.proofs.lemmas.Bool.{true≢false}
 use Rattle.job_states.specs.declared.transition.Transaction.{Transaction}
 use Rattle.queue_model.specs.Chain.{◌>>=◌}
@@ -10,6 +10,10 @@ use Rattle.queue_model.proofs.Steps.{same_Some, then}
 pub nothing : {A : Type 0} (o : Option A) → is_some o ≡ false → o ≡ None
 nothing None no_one = refl
 nothing (Some x) no_one = absurd (true≢false no_one)
+
+pub something : {A : Type 0} (o : Option A) → is_some o ≡ true → (x : A) × (o ≡ Some x)
+something None one = absurd (true≢false (sym one))
+something (Some x) one = (x, refl)
 
 -- one list of transactions, and then another one
 pub in_turn : (w v : World) (xs ys : List Transaction) → replay w xs ≡ Some v → replay w (xs ++ ys) ≡ replay v ys

@@ -36,7 +36,7 @@ use Rattle.journal_replay.proofs.Replayed.{in_turn}
 more_transactions : (spelled : List (List Transaction)) (txs : List Transaction) → flat_map (λ t. t) (spelled ++ txs ∷ []) ≡ flat_map (λ t. t) spelled ++ txs
 more_transactions spelled txs = flat_map-append (λ t. t) spelled (txs ∷ []) ∙ ap (λ l. flat_map (λ t. t) spelled ++ l) (append-nil txs)
 
-one_record : (bytes : List ℕ) (payloads : List (List ℕ)) (w v : World) → StandFor payloads w → Takes bytes w v → StandFor (payloads ++ bytes ∷ []) v
+pub one_record : (bytes : List ℕ) (payloads : List (List ℕ)) (w v : World) → StandFor payloads w → Takes bytes w v → StandFor (payloads ++ bytes ∷ []) v
 one_record bytes payloads w v stand_for takes =
     let txs = takes.txs in
     let before = stand_for.spelled in

@@ -1,5 +1,5 @@
 -- A file gives one verdict.
-use Rattle.std.proofs.Common.{◌≡◌, ◌⊎◌, inl, inr, ℕ, ◌+◌, true, false, List, [], ◌∷◌, ◌++◌, length, map, Option, None, Some, is_some, refl, sym, ◌∙◌, ap, subst, append_assoc}
+use Rattle.std.proofs.Common.{◌≡◌, ◌⊎◌, inl, inr, ℕ, ◌+◌, ◌*◌, ◌/◌, ◌%◌, ◌^◌, ◌<◌, true, false, List, [], ◌∷◌, ◌++◌, length, get_or, map, Option, None, Some, is_some, refl, sym, ◌∙◌, ap, subst, append_assoc, arith, length-take}
 use Rattle.std.proofs.lemmas.Bool.{true≢false}
 use Rattle.std.proofs.lemmas.Grind.{flat_map-append}
 use Rattle.std.proofs.lemmas.List.{append_cancel_left}
@@ -10,6 +10,7 @@ use Rattle.journal_format.specs.Payload.{HasText}
 use Rattle.journal_format.specs.Records.{framed, is_closed, records}
 use Rattle.journal_format.specs.Spelling.{payload}
 use Rattle.journal_format.proofs.RecordLaws.{frame_once}
+use Rattle.journal_keeper.specs.Files.{IsForeignFile, IsIdleFile, IsLiveFile, IsVersionFile}
 use Rattle.journal_keeper.specs.Kept.{HoldsPayloads, Recovers}
 use Rattle.journal_keeper.specs.Records.{BeginsWithRecord, IsPayload}
 use Rattle.journal_keeper.proofs.KeptLaws.{live_not_idle}
@@ -144,3 +145,36 @@ module _ (one : OneText) where
         by (inl same) = this.here ∙ ap (λ (p : List (List ℕ)). 16 + length (records p)) same ∙ sym that.here
         by (inr (inl on)) = absurd (not_bad this.payloads that.payloads this.world that.world that.rest this.stand_for that.stand_for on that.bad)
         by (inr (inr on)) = absurd (not_bad that.payloads this.payloads that.world this.world this.rest that.stand_for this.stand_for on this.bad)
+
+-- ---- what recovers is a journal of this version
+
+pub not_foreign : (file : List ℕ) (w : World) → RecoversWorld file w → IsForeignFile file → ⊥
+not_foreign file w found foreign = by found.recovers
+  where
+    by : Recovers found.payloads file → ⊥
+    by (inl holds) = foreign.0 holds.turn holds.live
+    by (inr idle) = foreign.1 idle.0
+
+version_bytes : (n : ℕ) → n < 2 ^ 32 → n ≡ n / 16777216 % 256 * 16777216 + n / 65536 % 256 * 65536 + n / 256 % 256 * 256 + n % 256
+version_bytes n small = omega arith
+
+version_not_live : (file : List ℕ) (n turn : ℕ) → IsVersionFile n file → IsLiveFile turn file → ⊥
+version_not_live file n turn version live =
+    let is = sym version.2.1 ∙ live.1 in
+    let a = ap (λ (l : List ℕ). get_or l 8 0) is in
+    let b = ap (λ (l : List ℕ). get_or l 9 0) is in
+    let c = ap (λ (l : List ℕ). get_or l 10 0) is in
+    let d = ap (λ (l : List ℕ). get_or l 11 0) is in
+    version.1 (version_bytes n version.0 ∙ omega (arith, a, b, c, d))
+
+version_not_idle : (file : List ℕ) (n : ℕ) → IsVersionFile n file → IsIdleFile file → ⊥
+version_not_idle file n version (inl short) = let t = ap length version.2.1 in let k = length-take 16 file in omega (arith, t, k, short)
+version_not_idle file n version (inr (inl zeroed)) = let t = sym (ap (λ (l : List ℕ). get_or l 0 0) version.2.1) ∙ zeroed in omega (arith, t)
+version_not_idle file n version (inr (inr other)) = other.0 (ap (λ (l : List ℕ). get_or l 0 0) version.2.1)
+
+pub not_version : (file : List ℕ) (n : ℕ) (w : World) → RecoversWorld file w → IsVersionFile n file → ⊥
+not_version file n w found version = by found.recovers
+  where
+    by : Recovers found.payloads file → ⊥
+    by (inl holds) = version_not_live file n holds.turn version holds.live
+    by (inr idle) = version_not_idle file n version idle.0

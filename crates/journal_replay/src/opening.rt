@@ -2,9 +2,12 @@
 ghost use Rattle.std.specs.Prelude.{◌≡◌, ◌<◌, ◌^◌, IfErr, IfOk, IfSome, OnOk};
 ghost use Rattle.journal_keeper.specs.Answers.{HasOpenCause, KeepsAll};
 ghost use Rattle.journal_keeper.specs.Writes.{IsOtherKept};
+ghost use Rattle.journal_replay.specs.Kept.{IsEitherOf, IsNoRefusalOf, StaysKeptFor};
 ghost use Rattle.journal_replay.specs.Opening.{IsFault, Opens};
 ghost use Rattle.journal_replay.specs.Taking.{IsStepFault, Replays, StepsTo};
 
+use crate::kept::kept_recovers;
+use crate::laws::one_verdict;
 use crate::taken::take_in;
 use exec_tables::Tables;
 use journal_keeper::{Journal, OpenFault, one_recovery};
@@ -22,10 +25,15 @@ pub fn open<D: Disk>(alloc: Global, disk: &mut D) -> Result<(Journal, Tables), O
     ensures opened { IfOk result (λ r. Opens r.0 r.1.world (D.history disk.old) (D.history disk.new)) }
     ensures fault { IfErr result (IsFault (D.history disk.old) (D.history disk.new)) }
     ensures any_moment { KeepsAll (D.history disk.old) (D.history disk.new) }
+    ensures kept { StaysKeptFor (D.history disk.old) (D.history disk.new) }
+    ensures either { IfOk result (λ r. IsEitherOf (D.history disk.old) r.1.world) }
+    ensures accepted { IfErr result (IsNoRefusalOf (D.history disk.old)) }
     ensures other { IsOtherKept (D.history disk.old) (D.history disk.new) }
     ensures cause { HasOpenCause (D.faults disk.old) (D.faults disk.new) result }
 {
     one_recovery();
+    one_verdict();
+    kept_recovers();
     let mut journal = Journal::open(alloc, disk)?;
     let mut tables = Tables::new(alloc);
     replay_all(alloc, disk, &mut journal, &mut tables)?;

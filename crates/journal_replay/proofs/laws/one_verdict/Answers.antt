@@ -1,4 +1,4 @@
-use Rattle.journal_replay.proofs.Verdicts.{not_refused, one_place, same_world}
+use Rattle.journal_replay.proofs.Verdicts.{not_foreign, not_refused, not_version, one_place, same_world}
 use Rattle.journal_replay.proofs.laws.one_verdict.Goals as goal
 
 pub returns-clause-world : goal.returns-clause-world
@@ -9,3 +9,9 @@ returns-clause-refused c = not_refused c.one_text.ensures c.one_recovery.ensures
 
 pub returns-clause-place : goal.returns-clause-place
 returns-clause-place c = one_place c.one_text.ensures c.one_recovery.ensures
+
+pub returns-clause-foreign : goal.returns-clause-foreign
+returns-clause-foreign c = not_foreign
+
+pub returns-clause-version : goal.returns-clause-version
+returns-clause-version c = not_version
