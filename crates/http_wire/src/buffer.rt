@@ -14,7 +14,7 @@ const CHUNK: usize = 8192;
 /// Bytes that were read and not yet used. They stand first in a vector that keeps its length, so that none of it is set to
 /// zero twice.
 #[derive(Drop)]
-pub(crate) struct Buffer {
+pub struct Buffer {
     bytes: Vec<u8>,
     held: usize,
 }

@@ -8,6 +8,7 @@ mod read;
 mod reply;
 mod request;
 
+pub use buffer::Buffer;
 pub use carry::Carry;
 pub use head::{MAX_BODY, MAX_FIELDS, MAX_HEAD, Refusal};
 pub use reply::{Body, BodyKind, Reply, WriteFault, write_all, write_reply};

@@ -3,3 +3,4 @@ pub mod Jobs
 pub mod Lines
 pub mod Printed
 pub mod Ranges
+pub mod Input

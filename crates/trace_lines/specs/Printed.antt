@@ -13,7 +13,7 @@ use Rattle.job_states.specs.declared.row.Row.TheVariants as row
 use Rattle.http_wire.specs.Reply.{body_bytes}
 use Rattle.http_wire.specs.declared.reply.Reply.{Reply}
 use Rattle.queue_replies.specs.Answers.{reply_of}
-use Rattle.queue_replies.specs.Faults.{error_at}
+use Rattle.queue_replies.specs.Faults.{error_at, not_built}
 use Rattle.queue_replies.specs.Json.{json, whole}
 use Rattle.queue_replies.specs.Refusals.{refused_reply}
 use Rattle.trace_lines.specs.declared.printed.Printed.{Printed}
@@ -69,3 +69,8 @@ refused_text refused = body_text (refused_reply refused)
 -- with the place of the line's first byte
 abbrev pub bad_line_text : ℕ → List ℕ
 bad_line_text at = compact_text (error_at at (codes "bad_line"))
+
+-- ---- commands that aren't built yet
+
+abbrev pub not_built_text : List ℕ
+not_built_text = body_bytes not_built.body

@@ -69,7 +69,7 @@ impl From<NoMemory> for LineFault {
 }
 
 /// The greatest length of a line in bytes.
-const MAX_LEN: usize = 4096;
+pub(crate) const MAX_LEN: usize = 4096;
 
 /// The line that the bytes spell, which come without their line feed: at most 4096 bytes of UTF-8, whose words one space
 /// separates.

@@ -8,7 +8,7 @@ ghost use Rattle.trace_lines.specs.Printed as spec;
 
 use http_wire::Body;
 use job_states::{Answer, Bytes, NoMemory, Polled, Refused, Row};
-use queue_replies::{reply_of, reply_refused};
+use queue_replies::{not_built, reply_of, reply_refused};
 use serde_json::{Value, json};
 use std::alloc::{AllocError, Global};
 
@@ -29,7 +29,7 @@ pub enum Printed {
     DiskFault,
     /// `{"error":"no_memory"}`
     NoMemory,
-    /// What is said of an answer, of a refusal or of a bad line.
+    /// What is said of an answer, of a refusal, of a bad line or of a command that isn't built yet.
     Json(Bytes),
 }
 
@@ -75,6 +75,13 @@ impl Printed {
         ensures { IfOk result (λ printed. spec.printed_text printed ≡ spec.bad_line_text at) }
     {
         printed_json(alloc, &bad_line(alloc, at)?)
+    }
+
+    /// `{"error":"not_built"}`, for a command that isn't built yet.
+    pub fn not_built(alloc: Global) -> Result<Self, NoMemory>
+        ensures { IfOk result (λ printed. spec.printed_text printed ≡ spec.not_built_text) }
+    {
+        Ok(printed_body(not_built(alloc)?.body))
     }
 }
 
