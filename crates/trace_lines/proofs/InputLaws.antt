@@ -1,9 +1,8 @@
 -- Bytes that begin with a line, and bytes that don't.
-use Rattle.std.proofs.Common.{◌≡◌, ◌<◌, ◌≤◌, ◌+◌, ◌-◌, ◌⊎◌, ℕ, suc, Bool, true, false, cond, ◌||◌, leb, List, [], ◌∷◌, ◌++◌, length, take, drop, get_or, position, Option, None, Some, IfSome, IfNone, inl, inr, refl, ap, ap₂, sym, ◌∙◌, subst, arith, append_assoc, add-one, length-append, length-take, leb-true, leb-false, ltb-true, ltb-false, eqb-true}
+use Rattle.std.proofs.Common.{◌≡◌, ◌<◌, ◌≤◌, ◌+◌, ◌-◌, ℕ, suc, Bool, true, false, cond, ◌||◌, leb, List, [], ◌∷◌, ◌++◌, length, take, drop, get_or, position, Option, None, Some, IfSome, IfNone, inl, inr, refl, ap, ap₂, sym, ◌∙◌, subst, arith, append_assoc, add-one, length-append, length-take, leb-true, leb-false, ltb-true, ltb-false, eqb-true}
 use Rattle.std.specs.List.{list_any, position_or_len}
 use Rattle.std.proofs.Math.Bool.{or-true}
 use Rattle.std.proofs.Math.Seq.{take-append-add, split_at}
-use Rattle.std.proofs.lemmas.Bool.Decides.{nat_tests}
 use Rattle.std.proofs.lemmas.List.{take_all, take-append-le, take-append-drop, get_or-take}
 use Rattle.std.proofs.lemmas.List.Folds.{list_any-append, list_any_none}
 use Rattle.std.proofs.lemmas.List.Sums.{fails_before_first, passes_at_first}
