@@ -1,16 +1,20 @@
 -- What is written last.
-use Rattle.std.proofs.Common.{◌≡◌, ℕ, List, [], Option, None, Some, IfNone, Result, Ok, Err, OnOk, OnErr, is_err, true, false, inl, inr, refl, sym, ◌∙◌, subst, append-nil}
+use Rattle.std.proofs.Common.{◌≡◌, ◌⊎◌, ℕ, List, [], Option, None, Some, IfNone, Result, Ok, Err, OnOk, OnErr, is_err, true, false, inl, inr, refl, sym, ◌∙◌, subst, append-nil}
 use Rattle.std.specs.Io.KnownBytes.{Appends}
 use Rattle.std.proofs.KnownBytes.{Appends-nil}
 use Rattle.sq_outside.specs.Fault.{Rose}
 use Rattle.sq_outside.specs.Streams.{SinkState}
 use Rattle.http_wire.specs.Reply.{AppendsPrefix}
+use Rattle.journal_keeper.specs.declared.fault.OpenFault.{OpenFault}
+use Rattle.journal_keeper.specs.declared.fault.OpenFault.TheVariants as fault
+use Rattle.queue_config.specs.declared.config.Config.{Config}
 use Rattle.queue_cli.specs.declared.end.End.{End}
-use Rattle.queue_cli.specs.declared.end.End.TheVariants.{Done, BadInput, Usage, BadSettings, ReadFault, WriteFault, NoMemory, InputTooLong}
-use Rattle.queue_cli.specs.LastText.{WritesLast, Reports}
+use Rattle.queue_cli.specs.declared.end.End.TheVariants.{BadSettings, ReadFault, NoMemory}
+use Rattle.queue_cli.specs.Journal.{LacksJournal, open_end}
+use Rattle.queue_cli.specs.LastText.{IsReported, IsUnreported, WritesLast, Reports}
 use Rattle.queue_cli.specs.Outside.{Outside}
-use Rattle.queue_cli.specs.Run.{EndsWithoutSettings}
-use Rattle.queue_cli.specs.Settings.{LacksSettings}
+use Rattle.queue_cli.specs.Run.{EndsWithoutJournal, EndsWithoutSettings}
+use Rattle.queue_cli.specs.Settings.{HasSettings, LacksSettings}
 
 -- a piece, written whole or not
 pub last_written : {T E : Type 0} (r : Result T E) (old new : SinkState) (text last : List ℕ) → text ≡ last
@@ -25,24 +29,47 @@ nothing old new same =
     subst P same (record { part = []; after = []; parts = refl; written = Appends-nil old.written; whole = inl refl })
 
 -- the end of a run without settings is reported
-pub without_settings : (old new : Outside) (end reported : End) → LacksSettings old.settings new.settings end → new.input ≡ old.input → new.moments ≡ old.moments → Reports old.output new.output end reported → EndsWithoutSettings old new reported
-without_settings old new (BadSettings number key) reported cause input moments (inl is) =
+pub without_settings : (old new : Outside) (end reported : End) → LacksSettings old.settings new.settings end → new.input ≡ old.input → new.disk ≡ old.disk → new.moments ≡ old.moments
+    → Reports old.output new.output end reported → EndsWithoutSettings old new reported
+without_settings old new (BadSettings number key) reported cause input disk moments (inl is) =
     let P : End → Type 0 = EndsWithoutSettings old new in
-    subst P (sym is.same) (record { cause = cause; input = input; moments = moments; written = is.written })
-without_settings old new (BadSettings number key) reported cause input moments (inr none) =
+    subst P (sym is.same) (record { cause = cause; input = input; disk = disk; moments = moments; written = is.written })
+without_settings old new (BadSettings number key) reported cause input disk moments (inr none) =
     let P : End → Type 0 = EndsWithoutSettings old new in
-    subst P (sym none.memory) (record { cause = tt; input = input; moments = moments; written = nothing old.output new.output none.output })
-without_settings old new ReadFault reported cause input moments is =
+    subst P (sym none.memory) (record { cause = tt; input = input; disk = disk; moments = moments; written = nothing old.output new.output none.output })
+without_settings old new ReadFault reported cause input disk moments is =
     let P : End → Type 0 = EndsWithoutSettings old new in
-    subst P (sym is.same) (record { cause = cause; input = input; moments = moments; written = is.written })
-without_settings old new NoMemory reported cause input moments is =
+    subst P (sym is.same) (record { cause = cause; input = input; disk = disk; moments = moments; written = is.written })
+without_settings old new NoMemory reported cause input disk moments is =
     let P : End → Type 0 = EndsWithoutSettings old new in
-    subst P (sym is.same) (record { cause = cause; input = input; moments = moments; written = is.written })
-without_settings old new Done reported cause input moments is = absurd cause
-without_settings old new (BadInput at refusal) reported cause input moments is = absurd cause
-without_settings old new Usage reported cause input moments is = absurd cause
-without_settings old new WriteFault reported cause input moments is = absurd cause
-without_settings old new InputTooLong reported cause input moments is = absurd cause
+    subst P (sym is.same) (record { cause = cause; input = input; disk = disk; moments = moments; written = is.written })
+without_settings old new other reported cause input disk moments is = absurd cause
+
+-- ---- the journal isn't opened
+
+reported_or_not : (old new : SinkState) (f : OpenFault) (reported : End) → Reports old new (open_end f) reported → IsReported old new (open_end f) reported ⊎ IsUnreported old new reported
+reported_or_not old new (fault.NotAJournal file) reported is = is
+reported_or_not old new (fault.Version file n) reported is = is
+reported_or_not old new (fault.BadRecord at) reported is = is
+reported_or_not old new fault.DiskFault reported is = inl is
+reported_or_not old new fault.NoMemory reported is = inl is
+
+-- the end of a run without a journal is reported
+pub without_journal : (old new : Outside) (settings : Config) (f : OpenFault) (reported : End) → HasSettings old.settings new.settings settings → LacksJournal old.disk new.disk (open_end f)
+    → new.input ≡ old.input → new.moments ≡ old.moments → Reports old.output new.output (open_end f) reported → EndsWithoutJournal old new reported
+without_journal old new settings f reported accepted lacks input moments reports =
+    let P : End → Type 0 = EndsWithoutJournal old new in
+    elim (reported_or_not old.output new.output f reported reports) [
+      | inl is ↦ subst P (sym is.same) (record { settings = settings; accepted = accepted; cause = lacks; input = input; moments = moments; written = is.written })
+      | inr none ↦ subst P (sym none.memory) (record {
+        settings = settings;
+        accepted = accepted;
+        cause = record { fault = fault.NoMemory; end_is = refl; why = tt; blamed = tt; kept = lacks.kept; accepted = λ w doubt was. tt; other = lacks.other };
+        input = input;
+        moments = moments;
+        written = nothing old.output new.output none.output;
+      })
+    ]
 
 -- ---- what a call says by its answer
 

@@ -1,24 +1,35 @@
--- Which exit status comes where settings and input are known.
-use Rattle.std.proofs.Common.{◌≡◌, ◌≤◌, ◌⊎◌, ◌+◌, inl, inr, ℕ, List, ◌++◌, length, take, drop, length-append, Ok, Err, ap, ◌∙◌, Option, None, Some, IfSome, refl, sym, subst, arith}
+-- Which exit status comes where settings, journal and input are known.
+use Rattle.std.proofs.Common.{◌≡◌, ◌≤◌, ◌⊎◌, ◌+◌, inl, inr, ℕ, List, ◌++◌, length, take, drop, length-append, Ok, Err, ap, ◌∙◌, Option, None, Some, IfSome, IsSome, refl, sym, subst, arith}
 use Rattle.std.specs.Io.KnownBytes.{Consumes}
+use Rattle.sq_outside.specs.Disk.{History}
 use Rattle.sq_outside.specs.Fault.{Rose}
-use Rattle.sq_outside.specs.Streams.{SourceState}
+use Rattle.sq_outside.specs.Streams.{SinkState, SourceState}
 use Rattle.http_wire.specs.Stream.{IsEnd, IsRefused}
 use Rattle.http_wire.specs.declared.head.Refusal.{Refusal}
 use Rattle.http_wire.specs.declared.request.Request.{Request}
+use Rattle.journal_keeper.specs.Answers.{IsBlamed}
+use Rattle.journal_keeper.specs.Files.{IsForeignFile, IsVersionFile}
+use Rattle.journal_keeper.specs.declared.fault.OpenFault.{OpenFault}
+use Rattle.journal_keeper.specs.declared.fault.OpenFault.TheVariants as opens
+use Rattle.journal_replay.specs.Opening.{IsFault}
+use Rattle.journal_replay.specs.Records.{IsBadAt, RecoversWorld}
 use Rattle.queue_config.specs.declared.config.Config.{Config}
 use Rattle.toml_members.specs.declared.fault.SettingsFault.TheVariants as fault
 use Rattle.queue_config.specs.Settings.{config_of}
+use Rattle.queue_http.specs.Service.{DiskState}
+use Rattle.queue_model.specs.World.{World}
 use Rattle.queue_cli.specs.Command.{command_of}
 use Rattle.queue_cli.specs.declared.command.Command.{Command}
-use Rattle.queue_cli.specs.declared.command.Command.TheVariants.{Exec}
+use Rattle.queue_cli.specs.declared.command.Command.TheVariants.{Exec, Status}
 use Rattle.queue_cli.specs.declared.end.End.{End}
 use Rattle.queue_cli.specs.declared.end.End.TheVariants as ends
 use Rattle.queue_cli.specs.Exec.{Session, AreRequests, AnswersPrefix, requests_of}
 use Rattle.queue_cli.specs.ExitStatus.{exit_status}
+use Rattle.queue_cli.specs.Journal.{IsAcceptedFile, IsRefusedFile, LacksJournal, Reads, open_end}
 use Rattle.queue_cli.specs.Outside.{Outside}
 use Rattle.queue_cli.specs.Run.{Performs, Runs}
-use Rattle.queue_cli.specs.Settings.{TakesPrefix, most_read, LacksSettings}
+use Rattle.queue_cli.specs.Settings.{HasSettings, TakesPrefix, most_read, LacksSettings}
+use Rattle.queue_cli.specs.Status.{Prints}
 use Rattle.queue_cli.proofs.Requests.{never_refused, requests_then, pending_at}
 use Rattle.queue_cli.proofs.SettingsLemmas.{judged_prefix}
 
@@ -49,8 +60,6 @@ done_or_no_memory old new (ends.BadInput at refusal) answers bytes requests rest
     let known = taken_of_known old.input.left new.input.left bytes answers.taken is answers.consumed in
     let P : Option (List ℕ) → Type 0 = λ left. IfSome left (λ bytes. IsRefused (drop at bytes) refusal) in
     absurd (not_refused bytes requests rest answers.taken (requests_of answers.exchanges) answers.pending at refusal known.0 are at_end known.1 answers.requests answers.cause.place (subst P is answers.cause.refused))
-done_or_no_memory old new ends.Usage answers bytes requests rest is are at_end short reads writes = absurd answers.cause
-done_or_no_memory old new (ends.BadSettings number key) answers bytes requests rest is are at_end short reads writes = absurd answers.cause
 done_or_no_memory old new ends.ReadFault answers bytes requests rest is are at_end short reads writes = absurd (reads answers.cause.0)
 done_or_no_memory old new ends.WriteFault answers bytes requests rest is are at_end short reads writes = absurd (writes answers.written.fault)
 done_or_no_memory old new ends.NoMemory answers bytes requests rest is are at_end short reads writes = inr refl
@@ -58,6 +67,7 @@ done_or_no_memory old new ends.InputTooLong answers bytes requests rest is are a
     let known = taken_of_known old.input.left new.input.left bytes answers.taken is answers.consumed in
     let whole : length bytes ≡ length answers.taken + length known.0 = ap length known.1 ∙ length-append answers.taken known.0 in
     absurd (omega (arith, whole, short, answers.cause.full))
+done_or_no_memory old new other answers bytes requests rest is are at_end short reads writes = absurd answers.cause
 
 -- what was read of the settings is judged as the whole of them
 prefix_judged : (left left' : Option (List ℕ)) (prefix text : List ℕ) → TakesPrefix most_read left left' prefix → left ≡ Some text → config_of prefix ≡ config_of text
@@ -68,57 +78,133 @@ prefix_judged left left' prefix text read is =
 
 -- settings that are accepted don't end a run
 not_accepted : (old new : SourceState) (end : End) → LacksSettings old new end → (text : List ℕ) (settings : Config) → old.left ≡ Some text → config_of text ≡ Ok settings
-    → (Rose old.faults new.faults → ⊥) → (exit_status end ≡ 0) ⊎ (exit_status end ≡ 7)
+    → (Rose old.faults new.faults → ⊥) → exit_status end ≡ 7
 not_accepted old new (ends.BadSettings number key) refused text settings left accepted reads =
     let judged = prefix_judged old.left new.left refused.text text refused.read left in
     let because = refused.refused in
     (cc)
 not_accepted old new ends.ReadFault rose text settings left accepted reads = absurd (reads rose)
-not_accepted old new ends.NoMemory none text settings left accepted reads = inr refl
-not_accepted old new ends.Done never text settings left accepted reads = absurd never
-not_accepted old new (ends.BadInput at refusal) never text settings left accepted reads = absurd never
-not_accepted old new ends.Usage never text settings left accepted reads = absurd never
-not_accepted old new ends.WriteFault never text settings left accepted reads = absurd never
-not_accepted old new ends.InputTooLong never text settings left accepted reads = absurd never
+not_accepted old new ends.NoMemory none text settings left accepted reads = refl
+not_accepted old new other never text settings left accepted reads = absurd never
 
 -- settings that are refused end it
 not_read : (old new : SourceState) (end : End) → LacksSettings old new end → (Rose old.faults new.faults → ⊥) → (exit_status end ≡ 3) ⊎ (exit_status end ≡ 7)
 not_read old new (ends.BadSettings number key) refused reads = inl refl
 not_read old new ends.ReadFault rose reads = absurd (reads rose)
 not_read old new ends.NoMemory none reads = inr refl
-not_read old new ends.Done never reads = absurd never
-not_read old new (ends.BadInput at refusal) never reads = absurd never
-not_read old new ends.Usage never reads = absurd never
-not_read old new ends.WriteFault never reads = absurd never
-not_read old new ends.InputTooLong never reads = absurd never
+not_read old new other never reads = absurd never
 
-settings_refused : (old new : Outside) (end : End) → Performs (Some Exec) old new end → (text : List ℕ) (number : ℕ) (key : List ℕ) → old.settings.left ≡ Some text → config_of text ≡ Err (fault.Refused number key)
-    → (Rose old.settings.faults new.settings.faults → ⊥) → (exit_status end ≡ 3) ⊎ (exit_status end ≡ 7)
-settings_refused old new end (inl without) text number key left is_refused reads = not_read old.settings new.settings end without.cause reads
-settings_refused old new end (inr answers) text number key left is_refused reads =
-    let judged = prefix_judged old.settings.left new.settings.left answers.accepted.text text answers.accepted.read left in
-    let accepted = answers.accepted.accepted in
+-- then nothing is accepted
+not_both : (old new : SourceState) (text : List ℕ) (number : ℕ) (key : List ℕ) (settings : Config) → HasSettings old new settings → old.left ≡ Some text → config_of text ≡ Err (fault.Refused number key) → ⊥
+not_both old new text number key settings has left refused =
+    let judged = prefix_judged old.left new.left has.text text has.read left in
+    let because = has.accepted in
     (cc)
 
-complete : (old new : Outside) (end : End) → Performs (Some Exec) old new end → (text : List ℕ) (settings : Config) → old.settings.left ≡ Some text → config_of text ≡ Ok settings
+settings_refused : (command : Option Command) (old new : Outside) (end : End) → Performs command old new end → IsSome command
+    → (text : List ℕ) (number : ℕ) (key : List ℕ) → old.settings.left ≡ Some text → config_of text ≡ Err (fault.Refused number key)
+    → (Rose old.settings.faults new.settings.faults → ⊥) → (exit_status end ≡ 3) ⊎ (exit_status end ≡ 7)
+settings_refused None old new end usage some text number key left refused reads = (cc)
+settings_refused (Some command) old new end (inl without) some text number key left refused reads = not_read old.settings new.settings end without.cause reads
+settings_refused (Some command) old new end (inr (inl without)) some text number key left refused reads = absurd (not_both old.settings new.settings text number key without.settings without.accepted left refused)
+settings_refused (Some command) old new end (inr (inr opened)) some text number key left refused reads = absurd (not_both old.settings new.settings text number key opened.settings opened.accepted left refused)
+
+-- ---- the journal
+
+-- a file that is recovered isn't refused
+abbrev pub IsOneVerdict : Type 0
+IsOneVerdict = (file : List ℕ) (w : World) → RecoversWorld file w → IsRefusedFile file → ⊥
+
+pub one_verdict : ((file : List ℕ) (w : World) → RecoversWorld file w → IsForeignFile file → ⊥) → ((file : List ℕ) (n : ℕ) (w : World) → RecoversWorld file w → IsVersionFile n file → ⊥)
+    → ((file : List ℕ) (w : World) (at : ℕ) → RecoversWorld file w → IsBadAt file at → ⊥) → IsOneVerdict
+one_verdict foreign version bad file w recovers (inl is) = foreign file w recovers is
+one_verdict foreign version bad file w recovers (inr (inl (n, is))) = version file n w recovers is
+one_verdict foreign version bad file w recovers (inr (inr (at, is))) = bad file w at recovers is
+
+-- why a journal isn't opened whose file is accepted
+fault_accepted : IsOneVerdict → (before after : Option History) (f : OpenFault) → Reads IsAcceptedFile before → IsFault before after f → (f ≡ opens.DiskFault) ⊎ (f ≡ opens.NoMemory)
+fault_accepted one None after f never why = absurd never
+fault_accepted one (Some h) after (opens.NotAJournal file) accepted why = absurd (one h.now.0.reads accepted.0 accepted.1 (inl why.1.0))
+fault_accepted one (Some h) after (opens.Version file n) accepted why = absurd (one h.now.0.reads accepted.0 accepted.1 (inr (inl (n, why.1.0))))
+fault_accepted one (Some h) after (opens.BadRecord at) accepted why = absurd (one h.now.0.reads accepted.0 accepted.1 (inr (inr (at, why.0))))
+fault_accepted one (Some h) after opens.DiskFault accepted why = inl refl
+fault_accepted one (Some h) after opens.NoMemory accepted why = inr refl
+
+-- a journal that is accepted doesn't end a run
+not_lacking : IsOneVerdict → (old new : DiskState) (end : End) → LacksJournal old new end → Reads IsAcceptedFile old.history → (Rose old.faults new.faults → ⊥) → exit_status end ≡ 7
+not_lacking one old new end lacks accepted faults = ap exit_status lacks.end_is ∙ elim (fault_accepted one old.history new.history lacks.fault accepted lacks.why) [
+  | inl disk ↦ absurd (faults (subst (IsBlamed old.faults new.faults) disk lacks.blamed))
+  | inr memory ↦ ap (λ f. exit_status (open_end f)) memory
+]
+
+-- one that is refused ends it
+lacking : (old new : DiskState) (f : OpenFault) → IsBlamed old.faults new.faults f → (Rose old.faults new.faults → ⊥) → (exit_status (open_end f) ≡ 8) ⊎ (exit_status (open_end f) ≡ 7)
+lacking old new (opens.NotAJournal file) blamed faults = inl refl
+lacking old new (opens.Version file n) blamed faults = inl refl
+lacking old new (opens.BadRecord at) blamed faults = inl refl
+lacking old new opens.DiskFault blamed faults = absurd (faults blamed)
+lacking old new opens.NoMemory blamed faults = inr refl
+
+not_opened : IsOneVerdict → (before : Option History) (w : World) → IfSome before (λ h. RecoversWorld h.now.0.reads w) → Reads IsRefusedFile before → ⊥
+not_opened one None w recovered never = never
+not_opened one (Some h) w recovered refused = one h.now.0.reads w recovered refused
+
+journal_refused : IsOneVerdict → (command : Option Command) (old new : Outside) (end : End) → Performs command old new end → IsSome command
+    → (text : List ℕ) (settings : Config) → old.settings.left ≡ Some text → config_of text ≡ Ok settings → Reads IsRefusedFile old.disk.history
+    → (Rose old.settings.faults new.settings.faults → ⊥) → (Rose old.disk.faults new.disk.faults → ⊥) → (exit_status end ≡ 8) ⊎ (exit_status end ≡ 7)
+journal_refused one None old new end usage some text settings left accepted refused reads faults = (cc)
+journal_refused one (Some command) old new end (inl without) some text settings left accepted refused reads faults = inr (not_accepted old.settings new.settings end without.cause text settings left accepted reads)
+journal_refused one (Some command) old new end (inr (inl without)) some text settings left accepted refused reads faults =
+    let P : End → Type 0 = λ end. (exit_status end ≡ 8) ⊎ (exit_status end ≡ 7) in
+    subst P (sym without.cause.end_is) (lacking old.disk new.disk without.cause.fault without.cause.blamed faults)
+journal_refused one (Some command) old new end (inr (inr opened)) some text settings left accepted refused reads faults =
+    absurd (not_opened one old.disk.history opened.engine.book.world opened.opened.opens.recovered refused)
+
+-- ---- the whole
+
+complete : IsOneVerdict → (old new : Outside) (end : End) → Performs (Some Exec) old new end → (text : List ℕ) (settings : Config) → old.settings.left ≡ Some text → config_of text ≡ Ok settings
+    → Reads IsAcceptedFile old.disk.history
     → (bytes : List ℕ) (requests : List Request) (rest : List ℕ) → old.input.left ≡ Some bytes → AreRequests bytes requests rest → IsEnd rest → length bytes ≤ 1073741824
-    → (Rose old.settings.faults new.settings.faults → ⊥) → (Rose old.input.faults new.input.faults → ⊥) → (Rose old.output.faults new.output.faults → ⊥)
+    → (Rose old.settings.faults new.settings.faults → ⊥) → (Rose old.input.faults new.input.faults → ⊥) → (Rose old.output.faults new.output.faults → ⊥) → (Rose old.disk.faults new.disk.faults → ⊥)
     → (exit_status end ≡ 0) ⊎ (exit_status end ≡ 7)
-complete old new end (inl without) text settings left accepted bytes requests rest is are at_end short file reads writes =
-    not_accepted old.settings new.settings end without.cause text settings left accepted file
-complete old new end (inr answers) text settings left accepted bytes requests rest is are at_end short file reads writes =
-    done_or_no_memory _ _ end answers.answers bytes requests rest is are at_end short reads writes
+complete one old new end (inl without) text settings left accepted journal bytes requests rest is are at_end short file reads writes faults =
+    inr (not_accepted old.settings new.settings end without.cause text settings left accepted file)
+complete one old new end (inr (inl without)) text settings left accepted journal bytes requests rest is are at_end short file reads writes faults =
+    inr (not_lacking one old.disk new.disk end without.cause journal faults)
+complete one old new end (inr (inr opened)) text settings left accepted journal bytes requests rest is are at_end short file reads writes faults =
+    done_or_no_memory _ _ end opened.runs.answers bytes requests rest is are at_end short reads writes
+
+-- the counts are printed, or there is no memory for them
+printed_or_no_memory : (old new : SinkState) (text : List ℕ) (end : End) → Prints old new text end → (Rose old.faults new.faults → ⊥) → (exit_status end ≡ 0) ⊎ (exit_status end ≡ 7)
+printed_or_no_memory old new text ends.Done prints writes = inl refl
+printed_or_no_memory old new text ends.WriteFault prints writes = absurd (writes prints.1)
+printed_or_no_memory old new text ends.NoMemory prints writes = inr refl
+printed_or_no_memory old new text other never writes = absurd never
+
+complete_status : IsOneVerdict → (old new : Outside) (end : End) → Performs (Some Status) old new end → (text : List ℕ) (settings : Config) → old.settings.left ≡ Some text → config_of text ≡ Ok settings
+    → Reads IsAcceptedFile old.disk.history
+    → (Rose old.settings.faults new.settings.faults → ⊥) → (Rose old.output.faults new.output.faults → ⊥) → (Rose old.disk.faults new.disk.faults → ⊥)
+    → (exit_status end ≡ 0) ⊎ (exit_status end ≡ 7)
+complete_status one old new end (inl without) text settings left accepted journal file writes faults = inr (not_accepted old.settings new.settings end without.cause text settings left accepted file)
+complete_status one old new end (inr (inl without)) text settings left accepted journal file writes faults = inr (not_lacking one old.disk new.disk end without.cause journal faults)
+complete_status one old new end (inr (inr opened)) text settings left accepted journal file writes faults = printed_or_no_memory old.output new.output _ end opened.runs.prints writes
 
 -- the whole promise follows from what the command does
-pub runs : (words : List (List ℕ)) (old new : Outside) (end : End) (status : ℕ) → Performs (command_of words) old new end → status ≡ exit_status end → Runs words old new status
-runs words old new end status performs is = record {
-  outcome = record { end = end; is = is; performs = performs };
-  refused = λ exec text number key left is_refused reads.
-      (let P : Option Command → Type 0 = λ command. Performs command old new end in
-      let Q : ℕ → Type 0 = λ status. (status ≡ 3) ⊎ (status ≡ 7) in
-      subst Q (sym is) (settings_refused old new end (subst P exec performs) text number key left is_refused reads));
-  complete = λ exec text settings left accepted bytes requests rest here are at_end short file reads writes.
-      (let P : Option Command → Type 0 = λ command. Performs command old new end in
-      let Q : ℕ → Type 0 = λ status. (status ≡ 0) ⊎ (status ≡ 7) in
-      subst Q (sym is) (complete old new end (subst P exec performs) text settings left accepted bytes requests rest here are at_end short file reads writes));
-}
+pub runs : IsOneVerdict → (words : List (List ℕ)) (old new : Outside) (end : End) (status : ℕ) → Performs (command_of words) old new end → status ≡ exit_status end → Runs words old new status
+runs one words old new end status performs is =
+    let P : Option Command → Type 0 = λ command. Performs command old new end in
+    record {
+      outcome = record { end = end; is = is; performs = performs };
+      refused = λ some text number key left refused reads.
+          (let Q : ℕ → Type 0 = λ status. (status ≡ 3) ⊎ (status ≡ 7) in
+          subst Q (sym is) (settings_refused (command_of words) old new end performs some text number key left refused reads));
+      refused_journal = λ some text settings left accepted journal reads faults.
+          (let Q : ℕ → Type 0 = λ status. (status ≡ 8) ⊎ (status ≡ 7) in
+          subst Q (sym is) (journal_refused one (command_of words) old new end performs some text settings left accepted journal reads faults));
+      complete = λ exec text settings left accepted journal bytes requests rest here are at_end short file reads writes faults.
+          (let Q : ℕ → Type 0 = λ status. (status ≡ 0) ⊎ (status ≡ 7) in
+          subst Q (sym is) (complete one old new end (subst P exec performs) text settings left accepted journal bytes requests rest here are at_end short file reads writes faults));
+      complete_status = λ status text settings left accepted journal file writes faults.
+          (let Q : ℕ → Type 0 = λ status. (status ≡ 0) ⊎ (status ≡ 7) in
+          subst Q (sym is) (complete_status one old new end (subst P status performs) text settings left accepted journal file writes faults));
+    }

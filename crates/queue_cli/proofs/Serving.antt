@@ -6,21 +6,29 @@ use Rattle.std.proofs.lemmas.Fn.{FoldsTo-push}
 use Rattle.std.proofs.lemmas.Grind.{flat_map-append}
 use Rattle.std.proofs.lemmas.List.{map_push}
 use Rattle.sq_outside.specs.Fault.{Rose}
-use Rattle.sq_outside.specs.Streams.{SinkState}
+use Rattle.sq_outside.specs.Streams.{SinkState, SourceState}
 use Rattle.http_wire.specs.Ahead.{Ahead}
 use Rattle.http_wire.specs.Stream.{input_of, taken_of, IsRequest, IsRefused, HasReadOn, HasReadAll, TakesRequest, EndsInput, FailsWith}
 use Rattle.http_wire.specs.Stream as wire
 use Rattle.http_wire.specs.Reply.{reply_text, AppendsPrefix}
 use Rattle.http_wire.specs.declared.head.Refusal.{Refusal}
 use Rattle.http_wire.specs.declared.head.Refusal.TheVariants as refusals
+use Rattle.http_wire.specs.declared.reply.Reply.{Reply}
 use Rattle.http_wire.specs.declared.request.Request.{Request}
 use Rattle.http_wire.specs.declared.request.WireFault.{WireFault}
 use Rattle.http_wire.specs.declared.request.WireFault.TheVariants as faults
-use Rattle.queue_http.specs.Service.{Service}
+use Rattle.journal_replay.specs.Kept.{AreKeptFor}
+use Rattle.queue_engine.specs.Running.{Store, running}
+use Rattle.queue_engine.specs.Standing.{StandsOn}
+use Rattle.queue_http.specs.Service.{Answers, DiskState, ServesFrom, Service, service}
+use Rattle.queue_http.specs.Steps.{MayTakeSteps}
+use Rattle.queue_model.specs.GoodWorld.{IsGood}
+use Rattle.situation_model.specs.Situations.{Doubt}
 use Rattle.queue_cli.specs.declared.end.End.{End}
 use Rattle.queue_cli.specs.declared.end.End.TheVariants.{Done, BadInput, ReadFault, WriteFault, NoMemory, InputTooLong}
-use Rattle.queue_cli.specs.Exec.{Session, Exchange, requests_of, reply_texts, AreRequests, IsAnswered, AreAnswered, AnswersPrefix, EndsFor, WritesReplies, fault_end, most_taken}
+use Rattle.queue_cli.specs.Exec.{Session, session, Exchange, requests_of, reply_texts, AreRequests, IsAnswered, AreAnswered, CountsFaults, AnswersPrefix, AnswersFrom, EndsFor, WritesReplies, fault_end, most_taken}
 use Rattle.queue_cli.specs.LastText.{last_text, WritesLast, Reports}
+use Rattle.queue_cli.proofs.Leaving.{AreReplays, Leaving, at_first, faults_on, leaves_on, prefixes}
 use Rattle.queue_cli.proofs.Requests.{requests_then, pending_at}
 
 -- the requests before the bytes ahead were answered
@@ -31,6 +39,8 @@ pub record Answering (old new : Session) (ahead : Ahead) : Type 0 where
   pub place : length taken ≡ taken_of ahead
   pub requests : AreRequests taken (requests_of exchanges) ahead.bytes
   pub answers : AreAnswered old.service exchanges new.service
+  pub leaves : Leaving old.service new.service
+  pub faults : CountsFaults old.service exchanges new.service
   pub reads : old.input.faults ≤ new.input.faults
 
 -- and their replies were written: what holds between two requests
@@ -39,8 +49,15 @@ pub record Serving (old new : Session) (ahead : Ahead) : Type 0 where
   pub written : Appends old.output.written new.output.written (reply_texts answering.exchanges)
   pub writes : old.output.faults ≤ new.output.faults
 
-pub at_start : (old : Session) (ahead : Ahead) → ahead.bytes ≡ [] → ahead.at ≡ 0 → Serving old old ahead
-at_start old ahead none first = record {
+-- it holds on an engine that stands on the disk, with this record in doubt or none
+pub record ServingOn (old : Session) (engine : Store) (moments : Option (List ℕ)) (disk : DiskState) (input : SourceState) (output : SinkState) (ahead : Ahead) : Type 0 where
+  pub doubt : Doubt
+  pub stands : StandsOn engine doubt disk.history
+  pub serving : Serving old (session (service (running engine doubt) moments disk) input output) ahead
+
+pub at_start : (old : Session) (ahead : Ahead) → ahead.bytes ≡ [] → ahead.at ≡ 0
+    → IfSome old.service.disk.history (λ h. AreKeptFor old.service.running.situation.book.world old.service.running.situation.doubt h.now) → Serving old old ahead
+at_start old ahead none first kept = record {
   answering = record {
     taken = [];
     exchanges = [];
@@ -48,6 +65,8 @@ at_start old ahead none first = record {
     place = omega (arith, first, ap length none);
     requests = sym none;
     answers = refl;
+    leaves = at_first old.service kept;
+    faults = omega arith;
     reads = omega arith;
   };
   written = Appends-nil old.output.written;
@@ -57,9 +76,45 @@ at_start old ahead none first = record {
 length_then : (taken read : List ℕ) (n m : ℕ) → length taken ≡ n → m ≡ n + length read → length (taken ++ read) ≡ m
 length_then taken read n m is more = omega (arith, is, more, length-append taken read)
 
--- one more request is answered
+-- one more request is answered, and what comes of the answer
+pub record Exchanged (old : Service) (exchange : Exchange) (new : Service) : Type 0 where
+  pub answered : IsAnswered old exchange new
+  pub leaves : (first : Service) → Leaving first old → Leaving first new
+  pub faults : (first : Service) (exchanges : List Exchange) → CountsFaults first exchanges old → CountsFaults first (exchanges ++ exchange ∷ []) new
+
+-- and the engine stands on the disk then, with this record in doubt or none
+pub record ExchangedOn (old : Service) (exchange : Exchange) (engine : Store) (moments : Option (List ℕ)) (disk : DiskState) : Type 0 where
+  pub doubt : Doubt
+  pub stands : StandsOn engine doubt disk.history
+  pub exchanged : Exchanged old exchange (service (running engine doubt) moments disk)
+
+-- what an answer does to the store and the disk, and which of them are 503
+abbrev pub AreSteps : Type 0
+AreSteps = (seat : ℕ) (old new : Service) (request : Request) (reply : Reply) → Answers seat old request reply new → MayTakeSteps old new
+
+abbrev pub AreFaults : Type 0
+AreFaults = (seat : ℕ) (old new : Service) (request : Request) (reply : Reply) → Answers seat old request reply new → reply.status ≡ 503 → Rose old.disk.faults new.disk.faults
+
+pub exchanged_on : AreReplays → AreSteps → AreFaults
+    → (old : Store) (doubt : Doubt) (moments : Option (List ℕ)) (disk : DiskState) (exchange : Exchange) (new : Store) (later : Option (List ℕ)) (after : DiskState)
+    → ServesFrom 0 old moments disk exchange.request exchange.reply new later after → StandsOn old doubt disk.history → IsGood new.book.world → disk.faults ≤ after.faults
+    → ExchangedOn (service (running old doubt) moments disk) exchange new later after
+exchanged_on replays steps faults old doubt moments disk exchange new later after serves stands good count =
+    let before = service (running old doubt) moments disk in
+    let served = serves doubt stands in
+    let end = service (running new served.doubt) later after in
+    record {
+      doubt = served.doubt;
+      stands = served.stands;
+      exchanged = record {
+        answered = record { answers = served.answers; good = good; kept = served.stands.kept };
+        leaves = λ first so_far. leaves_on replays first before end so_far (steps 0 before end exchange.request exchange.reply served.answers);
+        faults = λ first exchanges so_far. faults_on first before end exchanges exchange so_far count (faults 0 before end exchange.request exchange.reply served.answers);
+      };
+    }
+
 abbrev answered_more : (old mid new : Session) (ahead ahead' : Ahead) (exchange : Exchange) → Answering old mid ahead
-    → TakesRequest (input_of ahead mid.input) exchange.request (input_of ahead' new.input) → IsAnswered mid.service exchange new.service → Answering old new ahead'
+    → TakesRequest (input_of ahead mid.input) exchange.request (input_of ahead' new.input) → Exchanged mid.service exchange new.service → Answering old new ahead'
 answered_more old mid new ahead ahead' exchange answering takes answers = record {
   taken = answering.taken ++ takes.read;
   exchanges = answering.exchanges ++ exchange ∷ [];
@@ -71,7 +126,9 @@ answered_more old mid new ahead ahead' exchange answering takes answers = record
       (FoldsTo-push IsRequest (answering.taken ++ takes.read) (requests_of answering.exchanges) (ahead.bytes ++ takes.read) exchange.request ahead'.bytes
       (requests_then answering.taken (requests_of answering.exchanges) ahead.bytes takes.read answering.requests) takes.is_request)
       );
-  answers = FoldsTo-push IsAnswered old.service answering.exchanges mid.service exchange new.service answering.answers answers;
+  answers = FoldsTo-push IsAnswered old.service answering.exchanges mid.service exchange new.service answering.answers answers.answered;
+  leaves = answers.leaves old.service answering.leaves;
+  faults = answers.faults old.service answering.exchanges answering.faults;
   reads = omega (arith, answering.reads, takes.has_read.count);
 }
 
@@ -81,7 +138,7 @@ texts_push exchanges exchange =
 
 -- its reply is written
 pub serve_more : (old mid new : Session) (ahead ahead' : Ahead) (exchange : Exchange) → Serving old mid ahead
-    → TakesRequest (input_of ahead mid.input) exchange.request (input_of ahead' new.input) → IsAnswered mid.service exchange new.service
+    → TakesRequest (input_of ahead mid.input) exchange.request (input_of ahead' new.input) → Exchanged mid.service exchange new.service
     → Appends mid.output.written new.output.written (reply_text exchange.reply) → mid.output.faults ≤ new.output.faults → Serving old new ahead'
 serve_more old mid new ahead ahead' exchange serving takes answers written writes = record {
   answering = answered_more old mid new ahead ahead' exchange serving.answering takes answers;
@@ -98,7 +155,7 @@ rose_from first before after le rose = grind arith
 
 -- its reply can't be written
 pub unwritten : (old mid new : Session) (ahead ahead' : Ahead) (exchange : Exchange) → Serving old mid ahead
-    → TakesRequest (input_of ahead mid.input) exchange.request (input_of ahead' new.input) → IsAnswered mid.service exchange new.service
+    → TakesRequest (input_of ahead mid.input) exchange.request (input_of ahead' new.input) → Exchanged mid.service exchange new.service
     → AppendsPrefix mid.output.written new.output.written (reply_text exchange.reply) → Rose mid.output.faults new.output.faults → AnswersPrefix old new WriteFault
 unwritten old mid new ahead ahead' exchange serving takes answers part rose =
     let answering = answered_more old mid new ahead ahead' exchange serving.answering takes answers in
@@ -111,6 +168,8 @@ unwritten old mid new ahead ahead' exchange serving takes answers part rose =
       within = omega (arith, answering.place, takes.within);
       requests = answering.requests;
       answers = answering.answers;
+      leaves = prefixes old.service new.service answering.leaves;
+      faults = answering.faults;
       written = record {
         before = serving.answering.exchanges;
         last = exchange;
@@ -138,6 +197,8 @@ ended old mid new ahead ahead' read end answering has_read same written within c
   within = (let whole = length_then answering.taken read (taken_of ahead) (taken_of ahead + length read) answering.place refl in rw whole within);
   requests = requests_then answering.taken (requests_of answering.exchanges) ahead.bytes read answering.requests;
   answers = (let P : Service → Type 0 = AreAnswered old.service answering.exchanges in subst P same answering.answers);
+  leaves = (let P : Service → Type 0 = Leaving old.service in prefixes old.service new.service (subst P same answering.leaves));
+  faults = (let P : Service → Type 0 = CountsFaults old.service answering.exchanges in subst P same answering.faults);
   written = written;
   cause = cause;
 }
@@ -240,3 +301,8 @@ by_fault old mid new ahead ahead' faults.NoMemory end serving fails same reporte
     let P : End → Type 0 = AnswersPrefix old new in
     subst P (sym reported.same) (ended old mid new ahead ahead' fails.read NoMemory serving.answering fails.has_read same
     (last_then old.output mid.output new.output (reply_texts serving.answering.exchanges) [] serving.written serving.writes reported.written) fails.within tt)
+
+-- the end of a run over an engine that stands on the disk
+pub ends_on : (old : Session) (engine : Store) (doubt : Doubt) (moments : Option (List ℕ)) (disk : DiskState) (input : SourceState) (output : SinkState) (end : End) → StandsOn engine doubt disk.history
+    → AnswersPrefix old (session (service (running engine doubt) moments disk) input output) end → AnswersFrom old input output disk moments end
+ends_on old engine doubt moments disk input output end stands answers = record { running = running engine doubt; answers = answers; kept = stands.kept }

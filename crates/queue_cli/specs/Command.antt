@@ -2,9 +2,8 @@
 use Rattle.std.specs.Prelude.{ℕ, List, [], ◌∷◌, if◌then◌else◌, codes, Option, None, Some}
 use Rattle.std.specs.Str.{bytes_eq}
 use Rattle.queue_cli.specs.declared.command.Command.{Command}
-use Rattle.queue_cli.specs.declared.command.Command.TheVariants.{Exec}
+use Rattle.queue_cli.specs.declared.command.Command.TheVariants.{Exec, Status}
 
--- `exec` is the one command
 abbrev pub command_of : List (List ℕ) → Option Command
-command_of (word ∷ []) = if bytes_eq word (codes "exec") then Some Exec else None
+command_of (word ∷ []) = if bytes_eq word (codes "exec") then Some Exec else if bytes_eq word (codes "status") then Some Status else None
 command_of words = None

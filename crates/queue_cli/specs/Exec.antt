@@ -1,6 +1,6 @@
 -- What `exec` does: requests are read back to back and answered in turn.
-use Rattle.std.specs.Prelude.{◌≡◌, ◌+◌, ◌≤◌, ℕ, List, [], ◌∷◌, ◌++◌, length, map, drop, IfSome}
-use Rattle.std.specs.List.{flat_map, FoldsTo}
+use Rattle.std.specs.Prelude.{◌≡◌, ◌+◌, ◌-◌, ◌^◌, ◌≤◌, ◌==◌, ℕ, Bool, min, List, [], ◌∷◌, ◌++◌, length, map, take, drop, Option, Some, IfSome}
+use Rattle.std.specs.List.{count_by, flat_map, FoldsTo}
 use Rattle.std.specs.Io.KnownBytes.{Consumes}
 use Rattle.sq_outside.specs.Fault.{Rose}
 use Rattle.sq_outside.specs.Streams.{SourceState, SinkState}
@@ -12,8 +12,15 @@ use Rattle.http_wire.specs.declared.request.WireFault.TheVariants as faults
 use Rattle.http_wire.specs.declared.reply.Reply.{Reply}
 use Rattle.http_wire.specs.Reply.{reply_text}
 use Rattle.http_wire.specs.Stream.{IsRequest, IsEnd, IsRefused, IsUnfinished, HasReadAll}
+use Rattle.job_states.specs.declared.transition.Transaction.{Transaction}
+use Rattle.journal_replay.specs.Kept.{AreKeptFor, IsKeptFor}
 use Rattle.queue_model.specs.GoodWorld.{IsGood}
-use Rattle.queue_http.specs.Service.{Service, Answers}
+use Rattle.queue_model.specs.Replay.{replay}
+use Rattle.queue_model.specs.World.{World}
+use Rattle.situation_model.specs.Situations.{Doubt}
+use Rattle.sq_outside.specs.Disk.{LeavesRising}
+use Rattle.queue_engine.specs.Running.{Running}
+use Rattle.queue_http.specs.Service.{DiskState, Service, service, Answers}
 use Rattle.queue_cli.specs.declared.end.End.{End}
 use Rattle.queue_cli.specs.declared.end.End.TheVariants.{Done, BadInput, ReadFault, WriteFault, NoMemory, InputTooLong}
 use Rattle.queue_cli.specs.LastText.{last_text, WritesLast}
@@ -44,14 +51,39 @@ reply_texts exchanges = flat_map (λ exchange. reply_text exchange.reply) exchan
 abbrev pub AreRequests : List ℕ → List Request → List ℕ → Type 0
 AreRequests bytes requests rest = FoldsTo IsRequest bytes requests rest
 
--- a request is answered, by commands at seat 0, and the world is good then
+-- A request is answered, by commands at seat 0. Then the world is good, and the disk is kept for it and what is in doubt.
 pub record IsAnswered (old : Service) (exchange : Exchange) (new : Service) : Type 0 where
   pub answers : Answers 0 old exchange.request exchange.reply new
   pub good : IsGood new.running.situation.book.world
+  pub kept : IfSome new.disk.history (λ h. AreKeptFor new.running.situation.book.world new.running.situation.doubt h.now)
 
 -- the requests are answered in turn
 abbrev pub AreAnswered : Service → List Exchange → Service → Type 0
 AreAnswered old exchanges new = FoldsTo IsAnswered old exchanges new
+
+-- ---- what a crash leaves meanwhile
+
+-- the file is kept for the world after so many of the accepted transactions, with a record in doubt or without
+pub record IsKeptAfter (w : World) (accepted : List Transaction) (n : ℕ) (file : List ℕ) : Type 0 where
+  pub world : World
+  pub replayed : replay w (take n accepted) ≡ Some world
+  pub doubt : Doubt
+  pub kept : IsKeptFor world doubt file
+
+-- These transactions were accepted. At each moment a crash leaves the replay of a prefix of them, and this never gets shorter.
+pub record LeavesPrefixes (old new : Service) : Type 0 where
+  pub accepted : List Transaction
+  pub replayed : replay old.running.situation.book.world accepted ≡ Some new.running.situation.book.world
+  pub moments : LeavesRising (λ n image. IsKeptAfter old.running.situation.book.world accepted n image.0) 0 (length accepted) old.disk.history new.disk.history
+
+-- ---- disk faults
+
+abbrev pub is_disk_fault : Exchange → Bool
+is_disk_fault exchange = exchange.reply.status == 503
+
+-- at most as many replies are 503 as the count of faults rose, unless it stands at the greatest u64
+abbrev pub CountsFaults : Service → List Exchange → Service → Type 0
+CountsFaults old exchanges new = min (old.disk.faults + count_by is_disk_fault exchanges) (2 ^ 64 - 1) ≤ new.disk.faults
 
 -- ---- how it ends
 
@@ -115,5 +147,13 @@ pub record AnswersPrefix (old new : Session) (end : End) : Type 0 where
   pub within : length taken ≤ most_taken end
   pub requests : AreRequests taken (requests_of exchanges) pending
   pub answers : AreAnswered old.service exchanges new.service
+  pub leaves : LeavesPrefixes old.service new.service
+  pub faults : CountsFaults old.service exchanges new.service
   pub written : WritesReplies old.output new.output exchanges end
   pub cause : EndsFor old.input new.input taken pending end
+
+-- to some engine and record in doubt, for which the disk is kept then
+pub record AnswersFrom (old : Session) (input : SourceState) (output : SinkState) (disk : DiskState) (moments : Option (List ℕ)) (end : End) : Type 0 where
+  pub running : Running
+  pub answers : AnswersPrefix old (session (service running moments disk) input output) end
+  pub kept : IfSome disk.history (λ h. AreKeptFor running.situation.book.world running.situation.doubt h.now)

@@ -1,7 +1,9 @@
 pub mod Command
 pub mod Exec
 pub mod ExitStatus
+pub mod Journal
 pub mod LastText
 pub mod Outside
 pub mod Run
 pub mod Settings
+pub mod Status

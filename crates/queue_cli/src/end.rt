@@ -2,9 +2,11 @@
 ghost use Rattle.std.specs.Prelude.{◌≡◌, ◌≤◌, string_bytes, IfOk};
 ghost use Rattle.queue_cli.specs.Exec.{fault_end};
 ghost use Rattle.queue_cli.specs.ExitStatus as status;
-ghost use Rattle.queue_cli.specs.LastText.{settings_line, Reports};
+ghost use Rattle.queue_cli.specs.Journal.{open_end};
+ghost use Rattle.queue_cli.specs.LastText.{bad_record_line, not_a_journal_line, settings_line, version_line, Reports};
 
 use http_wire::{Refusal, WireFault, write_all, write_reply};
+use journal_keeper::OpenFault;
 use queue_config::Key;
 use queue_http::fault_reply;
 use sq_outside::Sink;
@@ -25,8 +27,17 @@ pub enum End {
     ReadFault,
     /// The output failed, or took nothing.
     WriteFault,
+    /// The disk failed before its journal was opened.
+    DiskFault,
     /// There was no memory.
     NoMemory,
+    /// The file is neither a journal nor free for one.
+    NotAJournal { file: u8 },
+    /// The file is a journal of another version.
+    JournalVersion { file: u8, n: u32 },
+    /// At this place of the journal no record follows an open gate, or none whose transactions are legal after those before
+    /// them.
+    BadRecord { at: u64 },
     /// 2^30 bytes of input were taken, and it goes on.
     InputTooLong,
 }
@@ -43,7 +54,9 @@ impl End {
             End::BadSettings { .. } => 3,
             End::ReadFault => 4,
             End::WriteFault => 5,
+            End::DiskFault => 6,
             End::NoMemory => 7,
+            End::NotAJournal { .. } | End::JournalVersion { .. } | End::BadRecord { .. } => 8,
             End::InputTooLong => 10,
         }
     }
@@ -71,6 +84,19 @@ impl End {
         }
     }
 
+    /// The end that a fault of the opening of the journal is.
+    pub(crate) fn of_open_fault(fault: OpenFault) -> Self
+        ensures { result ≡ open_end fault }
+    {
+        match fault {
+            OpenFault::NotAJournal { file } => End::NotAJournal { file },
+            OpenFault::Version { file, n } => End::JournalVersion { file, n },
+            OpenFault::BadRecord { at } => End::BadRecord { at },
+            OpenFault::DiskFault => End::DiskFault,
+            OpenFault::NoMemory => End::NoMemory,
+        }
+    }
+
     /// Writes the last text of this end, as far as the output takes it. Where there is no memory for the text nothing is
     /// written, and the run ends for that.
     pub(crate) fn report<K: Sink>(self, alloc: Global, output: &mut K) -> Self
@@ -90,6 +116,27 @@ impl End {
                 };
                 let _ = write_all(output, line.as_bytes());
             }
+            End::NotAJournal { file } => {
+                let Ok(line) = not_a_journal_line(alloc, *file) else {
+                    return End::NoMemory;
+                };
+                let _ = write_all(output, line.as_bytes());
+            }
+            End::JournalVersion { file, n } => {
+                let Ok(line) = version_line(alloc, *file, *n) else {
+                    return End::NoMemory;
+                };
+                let _ = write_all(output, line.as_bytes());
+            }
+            End::BadRecord { at } => {
+                let Ok(line) = bad_record_line(alloc, *at) else {
+                    return End::NoMemory;
+                };
+                let _ = write_all(output, line.as_bytes());
+            }
+            End::DiskFault => {
+                let _ = write_all(output, b"disk fault\n");
+            }
             End::Usage => {
                 let _ = write_all(output, b"usage\n");
             }
@@ -106,4 +153,22 @@ fn settings_line(alloc: Global, number: u8, key: &str) -> Result<String, AllocEr
     ensures { IfOk result (λ line. string_bytes line ≡ settings_line number key.now) }
 {
     format!(in alloc; "settings {number} {key}\n")
+}
+
+fn not_a_journal_line(alloc: Global, file: u8) -> Result<String, AllocError>
+    ensures { IfOk result (λ line. string_bytes line ≡ not_a_journal_line file) }
+{
+    format!(in alloc; "journal not a journal in file {file}\n")
+}
+
+fn version_line(alloc: Global, file: u8, n: u32) -> Result<String, AllocError>
+    ensures { IfOk result (λ line. string_bytes line ≡ version_line file n) }
+{
+    format!(in alloc; "journal version {n} in file {file}\n")
+}
+
+fn bad_record_line(alloc: Global, at: u64) -> Result<String, AllocError>
+    ensures { IfOk result (λ line. string_bytes line ≡ bad_record_line at) }
+{
+    format!(in alloc; "journal bad record at {at}\n")
 }

@@ -1,12 +1,13 @@
-//! The program as one call: commands over settings, an input, an output and a clock.
+//! The program as one call: commands over settings, an input, an output, a disk and a clock.
 #![tactic(auto)]
 
 mod command;
 mod end;
 mod exec;
 mod settings;
+mod status;
 #[cfg(test)]
 mod tests;
 
-pub use command::run;
+pub use command::{is_command, run};
 pub use end::End;

@@ -1,6 +1,7 @@
 use crate::run;
-use sq_outside::{MemClock, MemSink, MemSource, SureSource};
+use sq_outside::{MemClock, MemDisk, MemSink, MemSource, SureSource};
 use std::alloc::{AllocError, Global};
+use std::process::Abort;
 use std::test::Fail;
 
 const SETTINGS: &str = r#"
@@ -61,6 +62,31 @@ POST /processes/1/jobs/1/done  => 200 {"id":1,"state":"finished","unblocked":2}"
 const DISCARDED: &str = r#"POST /jobs {"job_class":"C","job_id":"1"} => 201 {"id":1,"state":"ready"}
 POST /jobs {"job_class":"C","job_id":"2"} => 200 {"id":null,"state":"discarded"}"#;
 
+/// Two runs over one disk, and what the second one finds.
+const KEPT: [&str; 2] = [
+    r#"POST /jobs {"job_class":"A","job_id":"1"} => 201 {"id":1,"state":"ready"}"#,
+    r#"POST /jobs {"job_class":"A","job_id":"2"} => 201 {"id":2,"state":"ready"}
+POST /processes {"kind":"worker","name":"w"} => 201 {"pid":1}
+POST /processes/1/poll {"limit":1,"queues":["*"]} => 200 {"jobs":[{"active_job_id":"1","class":"A","envelope":"{\"job_class\":\"A\",\"job_id\":\"1\"}","executions":0,"id":1,"priority":0,"queue":"default"}]}"#,
+];
+
+/// The same where the disk failed at the commit of the first job.
+const LOST: [&str; 2] = [
+    r#"POST /jobs {"job_class":"A","job_id":"1"} => 503 {"error":"disk_fault"}
+POST /jobs {"job_class":"A","job_id":"2"} => 201 {"id":2,"state":"ready"}"#,
+    r#"POST /jobs {"job_class":"A","job_id":"3"} => 201 {"id":3,"state":"ready"}"#,
+];
+
+/// The header of a journal.
+const HEADER: &[u8] = b"SQJRNAL\n\0\0\0\x01\0\0\0\0";
+/// What stands after the gate of the first record, an enqueue at moment 1000: a length, a payload with its envelope, and a
+/// closed gate.
+const RECORD: [&[u8]; 3] = [
+    b"\0\0\0\x4d\x01\x01\0\0\0\0\0\0\x03\xe8\0\x01\x01\0\0\0\0\0\0\0\x01\x01A\x07default\0\0\0\0\x02j1\0\x1f",
+    b"{\"job_class\":\"A\",\"job_id\":\"j1\"}",
+    b"\0\0\0\0\x01\0\0",
+];
+
 /// The bytes of a method, a path and a body, with a blank between them.
 fn request_text(alloc: Global, row: &str) -> Result<String, Fail> {
     let (method, rest) = row.split_once(" ").ok_or("no method")?;
@@ -80,6 +106,7 @@ fn reply_text(alloc: Global, row: &str) -> Result<String, Fail> {
         "409" => "Conflict",
         "422" => "Unprocessable Entity",
         "501" => "Not Implemented",
+        "503" => "Service Unavailable",
         "507" => "Insufficient Storage",
         _ => return Err("no reason".into()),
     };
@@ -98,12 +125,75 @@ fn failing(alloc: Global) -> Result<MemSource, AllocError> {
     Ok(MemSource::new(Vec::new(alloc), vec![in alloc; 1]?))
 }
 
-fn exec(alloc: Global, settings: &str, input: &str, sink: &mut MemSink) -> Result<u8, Fail> {
-    let words = vec![in alloc; String::from_str(alloc, "exec")?]?;
-    let mut clock = MemClock::new(vec![in alloc; 5, 6, 7]?);
+/// A disk with this file 0, whose call of this number fails.
+fn disk_of(alloc: Global, file: Vec<u8>, fail: u64) -> Result<MemDisk, Fail> {
+    let files = [file, Vec::new(alloc)];
+    Ok(MemDisk::new(alloc, files, vec![in alloc; (fail, 0)]?)?)
+}
+
+/// The first bytes of the journal of one job, with this byte at the gate of its record.
+fn journal(alloc: Global, gate: u8, len: usize) -> Result<Vec<u8>, AllocError> {
+    let mut file = Vec::from_slice(alloc, HEADER)?;
+    file.push(gate)?;
+    for part in RECORD {
+        file.extend_from_slice(part)?;
+    }
+    file.truncate(len);
+    Ok(file)
+}
+
+/// Runs a command at moment 1000 and later.
+fn command(
+    alloc: Global,
+    word: &str,
+    settings: &str,
+    input: &str,
+    sink: &mut MemSink,
+    disk: &mut MemDisk,
+) -> Result<u8, Fail> {
+    let words = vec![in alloc; String::from_str(alloc, word)?]?;
+    let mut clock = MemClock::new(vec![in alloc; 1000, 1001, 1002]?);
     let mut settings = source(alloc, settings)?;
     let mut input = source(alloc, input)?;
-    Ok(run(alloc, &words, &mut settings, &mut input, sink, &mut clock))
+    Ok(run(
+        alloc,
+        &words,
+        &mut settings,
+        &mut input,
+        sink,
+        disk,
+        &mut clock,
+    ))
+}
+
+/// Runs `exec` over the requests of a session, which are answered as it says.
+fn answers<R: Abort>(
+    rt: &R,
+    alloc: Global,
+    settings: &str,
+    session: &str,
+    disk: &mut MemDisk,
+) -> Result<(), Fail> {
+    let mut input = String::new(alloc);
+    let mut expected = String::new(alloc);
+    for row in session.lines() {
+        let (request, reply) = row.split_once(" => ").ok_or("no arrow")?;
+        input.push_str(&request_text(alloc, request)?)?;
+        expected.push_str(&reply_text(alloc, reply)?)?;
+    }
+    let mut sink = MemSink::new(alloc, Vec::new(alloc));
+    let status = command(alloc, "exec", settings, &input, &mut sink, disk)?;
+    assert_eq!(rt; status, 0);
+    let written = str::from_utf8(sink.bytes())?;
+    assert_eq!(rt; written, expected.as_str());
+    Ok(())
+}
+
+/// What `status` prints where there are so many ready jobs and nothing else.
+fn ready_text(alloc: Global, ready: u64) -> Result<String, AllocError> {
+    format!(in alloc;
+        "scheduled 0\nready {ready}\nblocked 0\nclaimed 0\nfailed 0\nfinished 0\nprocesses 0\nsemaphores 0\n"
+    )
 }
 
 #[test]
@@ -117,17 +207,64 @@ fn sessions_are_answered_by_the_tables(rt: HostRuntime) -> Result<(), Fail> {
         (SETTINGS, BLOCKED),
         (SETTINGS, DISCARDED),
     ] {
-        let mut input = String::new(alloc);
-        let mut expected = String::new(alloc);
-        for row in session.lines() {
-            let (request, reply) = row.split_once(" => ").ok_or("no arrow")?;
-            input.push_str(&request_text(alloc, request)?)?;
-            expected.push_str(&reply_text(alloc, reply)?)?;
-        }
+        let mut disk = disk_of(alloc, Vec::new(alloc), 0)?;
+        answers(&rt, alloc, settings, session, &mut disk)?;
+    }
+    Ok(())
+}
+
+#[test]
+fn jobs_outlast_the_run(rt: HostRuntime) -> Result<(), Fail> {
+    let alloc = rt.alloc();
+    // the eighteenth call of the disk syncs the gate of the first record, once it is open
+    for (fail, [before, after]) in [(0, KEPT), (18, LOST)] {
+        let mut disk = disk_of(alloc, Vec::new(alloc), fail)?;
+        answers(&rt, alloc, SETTINGS, before, &mut disk)?;
         let mut sink = MemSink::new(alloc, Vec::new(alloc));
-        assert_eq!(rt; exec(alloc, settings, &input, &mut sink)?, 0);
+        let status = command(alloc, "status", SETTINGS, "", &mut sink, &mut disk)?;
         let written = str::from_utf8(sink.bytes())?;
-        assert_eq!(rt; written, expected.as_str());
+        assert_eq!(rt; (status, written), (0, ready_text(alloc, 1)?.as_str()));
+        answers(&rt, alloc, SETTINGS, after, &mut disk)?;
+    }
+    Ok(())
+}
+
+#[test]
+fn the_journal_has_the_bytes_of_its_format(rt: HostRuntime) -> Result<(), Fail> {
+    let alloc = rt.alloc();
+    let enqueue = r#"POST /jobs {"job_class":"A","job_id":"j1"} => 201 {"id":1,"state":"ready"}"#;
+    for (session, gate, len) in [("", 0, 17), (enqueue, b'R', 99)] {
+        let mut disk = disk_of(alloc, Vec::new(alloc), 0)?;
+        answers(&rt, alloc, SETTINGS, session, &mut disk)?;
+        assert_eq!(rt; disk.bytes(0), journal(alloc, gate, len)?.as_slice());
+    }
+    Ok(())
+}
+
+#[test]
+fn status_tells_what_an_opening_finds(rt: HostRuntime) -> Result<(), Fail> {
+    let alloc = rt.alloc();
+    let hello = Vec::from_slice(alloc, b"hello journal world!")?;
+    for (file, status, written) in [
+        (journal(alloc, b'R', 99)?, 0, ready_text(alloc, 1)?),
+        (journal(alloc, 0, 99)?, 0, ready_text(alloc, 0)?),
+        (journal(alloc, b'R', 98)?, 0, ready_text(alloc, 1)?),
+        (
+            journal(alloc, b'R', 97)?,
+            8,
+            String::from_str(alloc, "journal bad record at 16\n")?,
+        ),
+        (
+            hello,
+            8,
+            String::from_str(alloc, "journal not a journal in file 0\n")?,
+        ),
+    ] {
+        let mut disk = disk_of(alloc, file, 0)?;
+        let mut sink = MemSink::new(alloc, Vec::new(alloc));
+        let ended = command(alloc, "status", SETTINGS, "", &mut sink, &mut disk)?;
+        assert_eq!(rt; ended, status);
+        assert_eq!(rt; sink.bytes(), written.as_bytes());
     }
     Ok(())
 }
@@ -137,24 +274,30 @@ fn each_run_ends_with_its_status(rt: HostRuntime) -> Result<(), Fail> {
     const CUT: &str =
         "HTTP/1.1 400 Bad Request\r\nContent-Type: application/json\r\nContent-Length: 30\r\n\r\n{\"at\":0,\"error\":\"bad_request\"}";
     let alloc = rt.alloc();
-    for (settings, input, status, written) in [
-        (SETTINGS, "", 0, ""),
-        (SETTINGS, "GET / HTTP/1.1\r\n", 1, CUT),
+    for (settings, fail, input, status, written) in [
+        (SETTINGS, 0, "", 0, ""),
+        (SETTINGS, 0, "GET / HTTP/1.1\r\n", 1, CUT),
         (
             "[[classes]]\ncolour = 1\n",
+            0,
             "",
             3,
             "settings 2 classes[0].colour\n",
         ),
+        (SETTINGS, 1, "", 6, "disk fault\n"),
     ] {
+        let mut disk = disk_of(alloc, Vec::new(alloc), fail)?;
         let mut sink = MemSink::new(alloc, Vec::new(alloc));
-        assert_eq!(rt; exec(alloc, settings, input, &mut sink)?, status);
+        let ended = command(alloc, "exec", settings, input, &mut sink, &mut disk)?;
+        assert_eq!(rt; ended, status);
         assert_eq!(rt; sink.bytes(), written.as_bytes());
     }
 
+    let mut disk = disk_of(alloc, Vec::new(alloc), 0)?;
     let mut full = MemSink::new(alloc, vec![in alloc; 1]?);
     let get = "GET / HTTP/1.1\r\n\r\n";
-    assert_eq!(rt; exec(alloc, SETTINGS, get, &mut full)?, 5);
+    let ended = command(alloc, "exec", SETTINGS, get, &mut full, &mut disk)?;
+    assert_eq!(rt; ended, 5);
 
     let mut clock = MemClock::new(Vec::new(alloc));
     let mut sink = MemSink::new(alloc, Vec::new(alloc));
@@ -169,6 +312,7 @@ fn each_run_ends_with_its_status(rt: HostRuntime) -> Result<(), Fail> {
                 &mut settings,
                 &mut input,
                 &mut sink,
+                &mut disk,
                 &mut clock
             ),
             status

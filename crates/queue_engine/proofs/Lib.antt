@@ -1,2 +1,5 @@
 pub mod Beginning
 pub mod Ending
+pub mod Opening
+pub mod Recording
+pub mod Standing

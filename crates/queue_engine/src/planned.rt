@@ -1,5 +1,5 @@
 //! The plan of a command, by the crate that makes it.
-ghost use Rattle.std.specs.Prelude.{◌≡◌, ℕ, None, Ok, IsTrue};
+ghost use Rattle.std.specs.Prelude.{◌≡◌, ◌≤◌, ℕ, None, Ok, IsTrue, length};
 ghost use Rattle.job_states.specs.declared.command.Command as command;
 ghost use Rattle.job_states.specs.Judged.{Gives};
 ghost use Rattle.job_states.specs.Moment.{IsMoment};
@@ -16,7 +16,7 @@ use crate::built::is_about_jobs;
 use book_core::{Book, Plan};
 use job_plans::plan_job;
 use job_states::{Command, Moment, Refused};
-use plan_model::plans_may_open;
+use plan_model::{plans_are_short, plans_may_open};
 use queue_config::Config;
 use std::alloc::Global;
 use upkeep_plans::plan_upkeep;
@@ -50,4 +50,12 @@ pub fn commands_may_open()
         → MayOpen s.book seat plan }
 {
     plans_may_open();
+}
+
+/// And it has no more transitions than the journal can hold of a transaction.
+pub fn commands_are_short()
+    ensures { (s : scenes.Scene) (c : command.Command) (plan : plans.Plan)
+        → IsGoodScene s → IsWithinRanges s c → command_plan s c ≡ Ok plan → length plan.tx.steps ≤ 2000 }
+{
+    plans_are_short();
 }

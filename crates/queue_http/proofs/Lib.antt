@@ -1,3 +1,5 @@
 pub mod RangeLemmas
+pub mod Served
+pub mod Stepped
 pub mod Turns
 pub mod Unlocked

@@ -208,8 +208,8 @@ command_replies s c = by (is_about_jobs c)
     by true = planned_replies s (job.refusals s c) (job.does s c) (of_job_command s c)
     by false = planned_replies s (upkeep.refusals s c) (upkeep.does s c) (of_upkeep_command s c)
 
-nothing_open : (s : Situation) → IsIdle s → s.book.open_plans ≡ map.empty
-nothing_open s idle = same_map nat_cmp_total nat_cmp-IsAntisymmetric s.book.open_plans map.empty idle
+nothing_open : (b : Book) → IsIdle b → b.open_plans ≡ map.empty
+nothing_open b idle = same_map nat_cmp_total nat_cmp-IsAntisymmetric b.open_plans map.empty idle
 
 all_free : (b : Book) (rows : List (Row × Mode)) → b.open_plans ≡ map.empty → are_free b rows ≡ true
 all_free b rows vacant = subst (λ m. are_free (record b { open_plans = m }) rows ≡ true) (sym vacant) (by rows)
@@ -226,6 +226,6 @@ unlocked : (b : Book) → b.open_plans ≡ map.empty → (result : Result Plan R
 unlocked b vacant (Err refused) reply = reply
 unlocked b vacant (Ok plan) reply = subst (λ o. HasReplied (by_lock plan o)) (sym (not_locked_where_free b plan.rows (all_free b plan.rows vacant))) tt
 
-pub refusal_replies : (settings : Config) (s : Situation) (c : Command) (now : ℕ) (refused : Refused) → IsIdle s → begins settings s c now ≡ Err refused → HasReply refused
+pub refusal_replies : (settings : Config) (s : Situation) (c : Command) (now : ℕ) (refused : Refused) → IsIdle s.book → begins settings s c now ≡ Err refused → HasReply refused
 refusal_replies settings s c now refused idle is =
-    subst HasReplied is (unlocked s.book (nothing_open s idle) (command_plan (scene_at settings s now) c) (command_replies (scene_at settings s now) c))
+    subst HasReplied is (unlocked s.book (nothing_open s.book idle) (command_plan (scene_at settings s now) c) (command_replies (scene_at settings s now) c))

@@ -3,3 +3,4 @@ pub mod Ended
 pub mod Ranges
 pub mod Replies
 pub mod Service
+pub mod Steps

@@ -2,8 +2,11 @@
 #![tactic(auto)]
 
 mod asked;
+mod laws;
 mod ranges;
 mod service;
 
+pub use laws::{answers_are_steps, only_faults_are_503};
 pub use queue_replies::fault_reply;
+pub use ranges::is_in_range;
 pub use service::answer;

@@ -14,7 +14,8 @@ ghost use Rattle.queue_http.specs.Ranges.{IsFitKey, IsFitLimit, scene_by};
 use job_states::{Arg, Command, NewJob};
 use queue_config::{Config, KeyFrom, Limit};
 
-pub(crate) fn is_in_range(config: &Config, command: &Command)
+/// A command that can be begun, and that is fit, is within the ranges that the engine asks for.
+pub fn is_in_range(config: &Config, command: &Command)
     requires config { IsConfig config.now }
     requires command { IsAskable command.now }
     ensures { IsWithinRanges (scene_by config.now) command.now }

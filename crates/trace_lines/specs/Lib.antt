@@ -1,6 +1,6 @@
-pub mod Words
+pub mod Input
 pub mod Jobs
 pub mod Lines
 pub mod Printed
 pub mod Ranges
-pub mod Input
+pub mod Words
