@@ -24,8 +24,10 @@ pub record IsFitList (items : List (List ℕ)) : Type 0 where
   pub few : length items ≤ 64
   pub names : All IsName items
 
+-- no line asks for a bulk
 abbrev pub IsFit : Command → Type 0
 IsFit (command.Enqueue job) = IsFitJob job
+IsFit (command.Bulk jobs) = ⊥
 IsFit (command.Poll pid list limit) = IsFitList list × (1 ≤ limit) × (limit ≤ 100)
 IsFit (command.Raised pid id error message) = IsTrue (is_name error)
 IsFit (command.Pause queue) = IsTrue (is_name queue)
