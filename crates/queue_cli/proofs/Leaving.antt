@@ -1,7 +1,6 @@
--- What a crash leaves while requests are answered, and how many of them met a fault of the disk.
+-- What a crash leaves while items are answered, and how many of them met a fault of the disk.
 use Rattle.std.proofs.Common.{◌≡◌, ◌+◌, ◌-◌, ◌^◌, ◌≤◌, inl, inr, ℕ, Bool, true, false, cond, min, List, [], ◌∷◌, ◌++◌, length, length-append, Option, None, Some, IfSome, refl, ap, sym, ◌∙◌, subst, arith}
 use Rattle.std.specs.List.{count_by}
-use Rattle.std.proofs.lemmas.Bool.Decides.{nat_tests}
 use Rattle.std.proofs.lemmas.List.{take-append-le, take_all}
 use Rattle.std.proofs.lemmas.List.Sums.{sum_by-append}
 use Rattle.sq_outside.specs.Disk.{History, Leaves, LeavesRising, Rises, Two}
@@ -10,16 +9,19 @@ use Rattle.sq_outside.specs.File.{File}
 use Rattle.sq_outside.proofs.Rising.{begin, rising_up, rising_weaker, through}
 use Rattle.job_states.specs.declared.transition.Transaction.{Transaction}
 use Rattle.journal_replay.specs.Kept.{AreKeptFor, IsKeptFor}
-use Rattle.journal_replay.proofs.Replayed.{in_turn}
 use Rattle.queue_config.specs.declared.config.Config.{Config}
 use Rattle.queue_engine.specs.Calls.{Writes, doubt_at}
+use Rattle.queue_engine.specs.Running.{Running}
 use Rattle.queue_http.specs.Service.{Service}
 use Rattle.queue_http.specs.Steps.{MayTakeSteps}
-use Rattle.queue_model.specs.Replay.{replay}
+use Rattle.queue_model.specs.Chain.{◌>>=◌}
+use Rattle.queue_model.specs.Replay.{after, replay}
 use Rattle.queue_model.specs.World.{World}
+use Rattle.queue_model.proofs.Steps.{same_Some, then}
 use Rattle.situation_model.specs.Situations.{Doubt, Situation}
 use Rattle.situation_model.specs.Steps.{Step, accepted, after_steps}
-use Rattle.queue_cli.specs.Exec.{CountsFaults, Exchange, IsKeptAfter, LeavesPrefixes, is_disk_fault}
+use Rattle.queue_cli.specs.Answering.{CountsFaults, Exchange, IsKeptAfter, LeavesPrefixes, is_disk_fault}
+use Rattle.queue_cli.specs.Protocol.{Protocol}
 
 -- ---- runs of moments
 
@@ -33,6 +35,13 @@ at_number P Q number from to (Some old) (Some new) weaker run = (run.0, run.1, e
     each : (n : ℕ) (states : List (Two File)) → Rises Q n states to → Rises P number states number
     each n [] rises = omega arith
     each n (files ∷ more) rises = (number, omega arith, (λ image are. weaker rises.0 image (rises.2 image are)), each rises.0 more rises.3)
+
+-- one list of transactions, and then another one
+in_turn : (w v : World) (first more : List Transaction) → replay w first ≡ Some v → replay w (first ++ more) ≡ replay v more
+in_turn w v [] more e = ap (λ u. replay u more) (same_Some w v e)
+in_turn w v (tx ∷ first) more e =
+    let next = then (after w tx) (λ u. replay u first) v e in
+    ap (λ o. o >>= (λ u. replay u (first ++ more))) next.1 ∙ in_turn next.0 v first more next.2
 
 -- ---- what was accepted so far
 
@@ -102,19 +111,23 @@ leaves_more old mid new tx more so_far replayed writes =
           (rising_weaker P R 0 n old.disk.history new.disk.history (kept_with_more w txs more) whole);
     }
 
--- nothing changes
-leaves_same : (old mid new : Service) → Leaving old mid → new.running ≡ mid.running → new.disk ≡ mid.disk → Leaving old new
-leaves_same old mid new so_far running disk = record {
+-- the world and the disk stay the same
+pub leaves_world : (old mid new : Service) → Leaving old mid → new.running.situation.book.world ≡ mid.running.situation.book.world → new.disk ≡ mid.disk → Leaving old new
+leaves_world old mid new so_far world disk = record {
   accepted = so_far.accepted;
-  replayed = so_far.replayed ∙ ap (λ r. Some r.situation.book.world) (sym running);
+  replayed = so_far.replayed ∙ ap (λ (w : World). Some w) (sym world);
   moments = subst (λ d. LeavesRising (IsKeptWithin old.running.situation.book.world so_far.accepted) 0 (length so_far.accepted) old.disk.history d.history) (sym disk) so_far.moments;
 }
+
+-- nothing changes
+leaves_same : (old mid new : Service) → Leaving old mid → new.running ≡ mid.running → new.disk ≡ mid.disk → Leaving old new
+leaves_same old mid new so_far running disk = leaves_world old mid new so_far (ap (λ (r : Running). r.situation.book.world) running) disk
 
 -- the world after steps is the replay of what they accepted
 abbrev pub AreReplays : Type 0
 AreReplays = (settings : Config) (s end : Situation) (steps : List Step) → after_steps settings s steps ≡ Some end → replay s.book.world (accepted settings s steps) ≡ Some end.book.world
 
--- one more request is answered
+-- one more item is answered, and this does nothing, or what steps do
 pub leaves_on : AreReplays → (old mid new : Service) → Leaving old mid → MayTakeSteps mid new → Leaving old new
 leaves_on replays old mid new so_far (inl same) = leaves_same old mid new so_far same.running same.disk
 leaves_on replays old mid new so_far (inr takes) =
@@ -140,11 +153,10 @@ counted : (first count mid new : ℕ) (b : Bool) → min (first + count) (2 ^ 64
 counted first count mid new true so_far later rose = let more = rose refl in omega arith
 counted first count mid new false so_far later rose = omega arith
 
-pub faults_on : (old mid new : Service) (exchanges : List Exchange) (exchange : Exchange) → CountsFaults old exchanges mid → mid.disk.faults ≤ new.disk.faults
-    → (exchange.reply.status ≡ 503 → Rose mid.disk.faults new.disk.faults) → CountsFaults old (exchanges ++ exchange ∷ []) new
-faults_on old mid new exchanges exchange so_far later rose =
+pub faults_on : (p : Protocol) (old mid new : Service) (exchanges : List (Exchange p)) (exchange : Exchange p) → CountsFaults old exchanges mid → mid.disk.faults ≤ new.disk.faults
+    → (p.is_fault exchange.reply ≡ true → Rose mid.disk.faults new.disk.faults) → CountsFaults old (exchanges ++ exchange ∷ []) new
+faults_on p old mid new exchanges exchange so_far later rose =
     let more : count_by is_disk_fault (exchanges ++ exchange ∷ []) ≡ count_by is_disk_fault exchanges + cond (is_disk_fault exchange) 1 0
-    = sum_by-append (λ (e : Exchange). cond (is_disk_fault e) 1 0) exchanges (exchange ∷ []) ∙ grind arith in
+    = sum_by-append (λ (e : Exchange p). cond (is_disk_fault e) 1 0) exchanges (exchange ∷ []) ∙ grind arith in
     let P : ℕ → Type 0 = λ count. min (old.disk.faults + count) (2 ^ 64 - 1) ≤ new.disk.faults in
-    subst P (sym more) (counted old.disk.faults (count_by is_disk_fault exchanges) mid.disk.faults new.disk.faults (is_disk_fault exchange) so_far later
-    (λ is. rose (grind (arith, nat_tests, is))))
+    subst P (sym more) (counted old.disk.faults (count_by is_disk_fault exchanges) mid.disk.faults new.disk.faults (is_disk_fault exchange) so_far later rose)

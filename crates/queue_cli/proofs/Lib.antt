@@ -1,4 +1,5 @@
 pub mod Ends
+pub mod Items
 pub mod Leaving
 pub mod Reading
 pub mod Requests

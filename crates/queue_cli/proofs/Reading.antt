@@ -4,9 +4,6 @@ use Rattle.std.specs.Io.KnownBytes.{Consumes}
 use Rattle.sq_outside.specs.Disk.{History}
 use Rattle.sq_outside.specs.Fault.{Rose}
 use Rattle.sq_outside.specs.Streams.{SinkState, SourceState}
-use Rattle.http_wire.specs.Stream.{IsEnd, IsRefused}
-use Rattle.http_wire.specs.declared.head.Refusal.{Refusal}
-use Rattle.http_wire.specs.declared.request.Request.{Request}
 use Rattle.journal_keeper.specs.Answers.{IsBlamed}
 use Rattle.journal_keeper.specs.Files.{IsForeignFile, IsVersionFile}
 use Rattle.journal_keeper.specs.declared.fault.OpenFault.{OpenFault}
@@ -16,21 +13,25 @@ use Rattle.journal_replay.specs.Records.{IsBadAt, RecoversWorld}
 use Rattle.queue_config.specs.declared.config.Config.{Config}
 use Rattle.toml_members.specs.declared.fault.SettingsFault.TheVariants as fault
 use Rattle.queue_config.specs.Settings.{config_of}
+use Rattle.queue_engine.specs.Running.{Store}
 use Rattle.queue_http.specs.Service.{DiskState}
 use Rattle.queue_model.specs.World.{World}
+use Rattle.queue_cli.specs.Answering.{AnswersPrefix, AreItems, Exchange, IsRefusedAt, Session, items_of}
 use Rattle.queue_cli.specs.Command.{command_of}
 use Rattle.queue_cli.specs.declared.command.Command.{Command}
 use Rattle.queue_cli.specs.declared.command.Command.TheVariants.{Exec, Status}
 use Rattle.queue_cli.specs.declared.end.End.{End}
 use Rattle.queue_cli.specs.declared.end.End.TheVariants as ends
-use Rattle.queue_cli.specs.Exec.{Session, AreRequests, AnswersPrefix, requests_of}
+use Rattle.queue_cli.specs.Exec.{requests}
 use Rattle.queue_cli.specs.ExitStatus.{exit_status}
 use Rattle.queue_cli.specs.Journal.{IsAcceptedFile, IsRefusedFile, LacksJournal, Reads, open_end}
 use Rattle.queue_cli.specs.Outside.{Outside}
-use Rattle.queue_cli.specs.Run.{Performs, Runs}
+use Rattle.queue_cli.specs.Protocol.{Protocol}
+use Rattle.queue_cli.specs.Run.{Performs, Runs, RunsOver}
 use Rattle.queue_cli.specs.Settings.{HasSettings, TakesPrefix, most_read, LacksSettings}
 use Rattle.queue_cli.specs.Status.{Prints}
-use Rattle.queue_cli.proofs.Requests.{never_refused, requests_then, pending_at}
+use Rattle.queue_cli.proofs.Items.{IsReadOneWay, not_refused}
+use Rattle.queue_cli.proofs.Requests.{requests_one_way}
 use Rattle.queue_cli.proofs.SettingsLemmas.{judged_prefix}
 
 -- what was taken is part of the whole input
@@ -43,31 +44,28 @@ taken_of_known left left' bytes taken is consumed =
     known None consumed = absurd consumed
     known (Some rest) consumed = (rest, consumed)
 
-not_refused : (bytes : List ℕ) (requests : List Request) (rest taken : List ℕ) (others : List Request) (pending : List ℕ) (at : ℕ) (why : Refusal) (left : List ℕ)
-    → AreRequests bytes requests rest → IsEnd rest → bytes ≡ taken ++ left → AreRequests taken others pending → at + length pending ≡ length taken → IsRefused (drop at bytes) why → ⊥
-not_refused bytes requests rest taken others pending at why left are end whole first place refused =
-    let P : List ℕ → Type 0 = λ bytes. AreRequests bytes others (pending ++ left) in
-    let Q : List ℕ → Type 0 = λ bytes. IsRefused bytes why in
-    never_refused bytes requests rest others (pending ++ left) why are end (subst P (sym whole) (requests_then taken others pending left first))
-    (subst Q (ap (drop at) whole ∙ pending_at at taken others pending left first place) refused)
+-- a sequence of items is answered whole, or there is no memory for it
+module _ (p : Protocol) (one_way : IsReadOneWay p) (old new : Session) where
+  not_refused_at : (end : End) (bytes : List ℕ) (items : List p.Item) (rest : List ℕ) → old.input.left ≡ Some bytes → AreItems p bytes items rest → p.IsEnd rest
+      → (taken pending : List ℕ) (exchanges : List (Exchange p)) → Consumes old.input.left new.input.left taken → AreItems p taken (items_of exchanges) pending → IsRefusedAt p end old.input taken pending → ⊥
+  not_refused_at end bytes items rest is are at_end taken pending exchanges consumed first refused =
+      let known = taken_of_known old.input.left new.input.left bytes taken is consumed in
+      let P : Option (List ℕ) → Type 0 = λ left. IfSome left (λ bytes. p.IsRefused (drop refused.at bytes) refused.refusal) in
+      not_refused p one_way bytes items rest taken (items_of exchanges) pending refused.at refused.refusal known.0 are at_end known.1 first refused.place (subst P is refused.refused)
 
--- a sequence of requests is answered whole, or there is no memory for it
-done_or_no_memory : (old new : Session) (end : End) → AnswersPrefix old new end
-    → (bytes : List ℕ) (requests : List Request) (rest : List ℕ) → old.input.left ≡ Some bytes → AreRequests bytes requests rest → IsEnd rest → length bytes ≤ 1073741824
-    → (Rose old.input.faults new.input.faults → ⊥) → (Rose old.output.faults new.output.faults → ⊥) → (exit_status end ≡ 0) ⊎ (exit_status end ≡ 7)
-done_or_no_memory old new ends.Done answers bytes requests rest is are at_end short reads writes = inl refl
-done_or_no_memory old new (ends.BadInput at refusal) answers bytes requests rest is are at_end short reads writes =
-    let known = taken_of_known old.input.left new.input.left bytes answers.taken is answers.consumed in
-    let P : Option (List ℕ) → Type 0 = λ left. IfSome left (λ bytes. IsRefused (drop at bytes) refusal) in
-    absurd (not_refused bytes requests rest answers.taken (requests_of answers.exchanges) answers.pending at refusal known.0 are at_end known.1 answers.requests answers.cause.place (subst P is answers.cause.refused))
-done_or_no_memory old new ends.ReadFault answers bytes requests rest is are at_end short reads writes = absurd (reads answers.cause.0)
-done_or_no_memory old new ends.WriteFault answers bytes requests rest is are at_end short reads writes = absurd (writes answers.written.fault)
-done_or_no_memory old new ends.NoMemory answers bytes requests rest is are at_end short reads writes = inr refl
-done_or_no_memory old new ends.InputTooLong answers bytes requests rest is are at_end short reads writes =
-    let known = taken_of_known old.input.left new.input.left bytes answers.taken is answers.consumed in
-    let whole : length bytes ≡ length answers.taken + length known.0 = ap length known.1 ∙ length-append answers.taken known.0 in
-    absurd (omega (arith, whole, short, answers.cause.full))
-done_or_no_memory old new other answers bytes requests rest is are at_end short reads writes = absurd answers.cause
+  done_or_no_memory : (end : End) → AnswersPrefix p old new end → (bytes : List ℕ) (items : List p.Item) (rest : List ℕ) → old.input.left ≡ Some bytes → AreItems p bytes items rest → p.IsEnd rest → length bytes ≤ 1073741824
+      → (Rose old.input.faults new.input.faults → ⊥) → (Rose old.output.faults new.output.faults → ⊥) → (exit_status end ≡ 0) ⊎ (exit_status end ≡ 7)
+  done_or_no_memory ends.Done answers bytes items rest is are at_end short reads writes = inl refl
+  done_or_no_memory (ends.BadInput at refusal) answers bytes items rest is are at_end short reads writes =
+      absurd (not_refused_at (ends.BadInput at refusal) bytes items rest is are at_end answers.taken answers.pending answers.exchanges answers.consumed answers.items answers.cause)
+  done_or_no_memory ends.ReadFault answers bytes items rest is are at_end short reads writes = absurd (reads answers.cause.0)
+  done_or_no_memory ends.WriteFault answers bytes items rest is are at_end short reads writes = absurd (writes answers.written.fault)
+  done_or_no_memory ends.NoMemory answers bytes items rest is are at_end short reads writes = inr refl
+  done_or_no_memory ends.InputTooLong answers bytes items rest is are at_end short reads writes =
+      let known = taken_of_known old.input.left new.input.left bytes answers.taken is answers.consumed in
+      let whole : length bytes ≡ length answers.taken + length known.0 = ap length known.1 ∙ length-append answers.taken known.0 in
+      absurd (omega (arith, whole, short, answers.cause.full))
+  done_or_no_memory other answers bytes items rest is are at_end short reads writes = absurd answers.cause
 
 -- what was read of the settings is judged as the whole of them
 prefix_judged : (left left' : Option (List ℕ)) (prefix text : List ℕ) → TakesPrefix most_read left left' prefix → left ≡ Some text → config_of prefix ≡ config_of text
@@ -162,17 +160,14 @@ journal_refused one (Some command) old new end (inr (inr opened)) some text sett
 
 -- ---- the whole
 
-complete : IsOneVerdict → (old new : Outside) (end : End) → Performs (Some Exec) old new end → (text : List ℕ) (settings : Config) → old.settings.left ≡ Some text → config_of text ≡ Ok settings
-    → Reads IsAcceptedFile old.disk.history
-    → (bytes : List ℕ) (requests : List Request) (rest : List ℕ) → old.input.left ≡ Some bytes → AreRequests bytes requests rest → IsEnd rest → length bytes ≤ 1073741824
-    → (Rose old.settings.faults new.settings.faults → ⊥) → (Rose old.input.faults new.input.faults → ⊥) → (Rose old.output.faults new.output.faults → ⊥) → (Rose old.disk.faults new.disk.faults → ⊥)
-    → (exit_status end ≡ 0) ⊎ (exit_status end ≡ 7)
-complete one old new end (inl without) text settings left accepted journal bytes requests rest is are at_end short file reads writes faults =
-    inr (not_accepted old.settings new.settings end without.cause text settings left accepted file)
-complete one old new end (inr (inl without)) text settings left accepted journal bytes requests rest is are at_end short file reads writes faults =
-    inr (not_lacking one old.disk new.disk end without.cause journal faults)
-complete one old new end (inr (inr opened)) text settings left accepted journal bytes requests rest is are at_end short file reads writes faults =
-    done_or_no_memory _ _ end opened.runs.answers bytes requests rest is are at_end short reads writes
+-- a command ends with 0 or 7 where it does so over an engine
+complete : IsOneVerdict → (command : Command) (old new : Outside) (end : End) → Performs (Some command) old new end
+    → ((engine : Store) (disk : DiskState) → RunsOver command engine disk old new end → (exit_status end ≡ 0) ⊎ (exit_status end ≡ 7))
+    → (text : List ℕ) (settings : Config) → old.settings.left ≡ Some text → config_of text ≡ Ok settings → Reads IsAcceptedFile old.disk.history
+    → (Rose old.settings.faults new.settings.faults → ⊥) → (Rose old.disk.faults new.disk.faults → ⊥) → (exit_status end ≡ 0) ⊎ (exit_status end ≡ 7)
+complete one command old new end (inl without) over text settings left accepted journal file faults = inr (not_accepted old.settings new.settings end without.cause text settings left accepted file)
+complete one command old new end (inr (inl without)) over text settings left accepted journal file faults = inr (not_lacking one old.disk new.disk end without.cause journal faults)
+complete one command old new end (inr (inr opened)) over text settings left accepted journal file faults = over opened.engine opened.disk opened.runs
 
 -- the counts are printed, or there is no memory for them
 printed_or_no_memory : (old new : SinkState) (text : List ℕ) (end : End) → Prints old new text end → (Rose old.faults new.faults → ⊥) → (exit_status end ≡ 0) ⊎ (exit_status end ≡ 7)
@@ -180,14 +175,6 @@ printed_or_no_memory old new text ends.Done prints writes = inl refl
 printed_or_no_memory old new text ends.WriteFault prints writes = absurd (writes prints.1)
 printed_or_no_memory old new text ends.NoMemory prints writes = inr refl
 printed_or_no_memory old new text other never writes = absurd never
-
-complete_status : IsOneVerdict → (old new : Outside) (end : End) → Performs (Some Status) old new end → (text : List ℕ) (settings : Config) → old.settings.left ≡ Some text → config_of text ≡ Ok settings
-    → Reads IsAcceptedFile old.disk.history
-    → (Rose old.settings.faults new.settings.faults → ⊥) → (Rose old.output.faults new.output.faults → ⊥) → (Rose old.disk.faults new.disk.faults → ⊥)
-    → (exit_status end ≡ 0) ⊎ (exit_status end ≡ 7)
-complete_status one old new end (inl without) text settings left accepted journal file writes faults = inr (not_accepted old.settings new.settings end without.cause text settings left accepted file)
-complete_status one old new end (inr (inl without)) text settings left accepted journal file writes faults = inr (not_lacking one old.disk new.disk end without.cause journal faults)
-complete_status one old new end (inr (inr opened)) text settings left accepted journal file writes faults = printed_or_no_memory old.output new.output _ end opened.runs.prints writes
 
 -- the whole promise follows from what the command does
 pub runs : IsOneVerdict → (words : List (List ℕ)) (old new : Outside) (end : End) (status : ℕ) → Performs (command_of words) old new end → status ≡ exit_status end → Runs words old new status
@@ -201,10 +188,12 @@ runs one words old new end status performs is =
       refused_journal = λ some text settings left accepted journal reads faults.
           (let Q : ℕ → Type 0 = λ status. (status ≡ 8) ⊎ (status ≡ 7) in
           subst Q (sym is) (journal_refused one (command_of words) old new end performs some text settings left accepted journal reads faults));
-      complete = λ exec text settings left accepted journal bytes requests rest here are at_end short file reads writes faults.
+      complete = λ exec text settings left accepted journal bytes items rest here are at_end short file reads writes faults.
           (let Q : ℕ → Type 0 = λ status. (status ≡ 0) ⊎ (status ≡ 7) in
-          subst Q (sym is) (complete one old new end (subst P exec performs) text settings left accepted journal bytes requests rest here are at_end short file reads writes faults));
+          subst Q (sym is) (complete one Exec old new end (subst P exec performs)
+          (λ engine disk runs. done_or_no_memory requests requests_one_way _ _ end runs.answers bytes items rest here are at_end short reads writes) text settings left accepted journal file faults));
       complete_status = λ status text settings left accepted journal file writes faults.
           (let Q : ℕ → Type 0 = λ status. (status ≡ 0) ⊎ (status ≡ 7) in
-          subst Q (sym is) (complete_status one old new end (subst P status performs) text settings left accepted journal file writes faults));
+          subst Q (sym is) (complete one Status old new end (subst P status performs)
+          (λ engine disk runs. printed_or_no_memory old.output new.output _ end runs.prints writes) text settings left accepted journal file faults));
     }

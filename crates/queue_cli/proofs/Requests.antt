@@ -1,18 +1,26 @@
--- Requests back to back.
-use Rattle.std.proofs.Common.{◌≡◌, ◌+◌, ℕ, List, [], ◌∷◌, ◌++◌, length, drop, ap, sym, ◌∙◌, subst, arith, append_assoc}
-use Rattle.std.proofs.lemmas.Grind.{common_steps}
-use Rattle.http_wire.specs.Stream.{IsRequest, IsEnd, IsRefused}
-use Rattle.http_wire.proofs.StreamLaws.{one_request, request_goes_on, request_not_refused, request_more}
+-- Requests as the items of an input.
+use Rattle.std.proofs.Common.{◌≡◌, ◌==◌, ◌+◌, ◌≤◌, ℕ, true, List, ◌++◌, length, ap, sym, ◌∙◌, arith, append_assoc}
+use Rattle.std.proofs.lemmas.Bool.Decides.{nat_tests}
+use Rattle.sq_outside.specs.Fault.{Rose}
+use Rattle.sq_outside.specs.Streams.{SourceState}
+use Rattle.http_wire.specs.Ahead as wire
+use Rattle.http_wire.specs.Stream.{input_of, taken_of, EndsInput, FailsWith, HasRead, HasReadOn, IsRefusedAt, IsRequest, TakesRequest}
 use Rattle.http_wire.specs.declared.head.Refusal.{Refusal}
+use Rattle.http_wire.specs.declared.head.Refusal.TheVariants as refusals
+use Rattle.http_wire.specs.declared.reply.Reply.{Reply}
 use Rattle.http_wire.specs.declared.request.Request.{Request}
-use Rattle.queue_cli.specs.Exec.{AreRequests}
+use Rattle.http_wire.specs.declared.request.WireFault.{WireFault}
+use Rattle.http_wire.specs.declared.request.WireFault.TheVariants as faults
+use Rattle.http_wire.proofs.StreamLaws.{one_request, request_goes_on, request_not_refused, request_more}
+use Rattle.queue_http.specs.Service.{Answers, Service}
+use Rattle.queue_http.specs.Steps.{MayTakeSteps}
+use Rattle.queue_cli.specs.declared.end.End.TheVariants.{Done, BadInput}
+use Rattle.queue_cli.specs.Exec.{fault_end, requests}
+use Rattle.queue_cli.proofs.Items.{IsReadOneWay}
+use Rattle.queue_cli.proofs.Leaving.{AreReplays, leaves_on}
+use Rattle.queue_cli.proofs.Serving.{Ahead, IsSound, Reads, TakesItem, TakesNone}
 
--- bytes that follow don't matter
-pub requests_then : (bytes : List ℕ) (requests : List Request) (rest more : List ℕ) → AreRequests bytes requests rest → AreRequests (bytes ++ more) requests (rest ++ more)
-requests_then bytes [] rest more same = ap (λ w. w ++ more) same
-requests_then bytes (request ∷ requests) rest more (next, is, are) = (next ++ more, request_more bytes request next more is, requests_then next requests rest more are)
-
--- what follows the requests is the end of the bytes
+-- ---- how they are read
 
 request_first : (bytes : List ℕ) (request : Request) (rest : List ℕ) → IsRequest bytes request rest → (first : List ℕ) × (bytes ≡ first ++ rest)
 request_first bytes request rest is = regrouped bytes _ request.body rest is.begins.reads.1
@@ -20,34 +28,61 @@ request_first bytes request rest is = regrouped bytes _ request.body rest is.beg
     regrouped : (bytes head body rest : List ℕ) → bytes ≡ head ++ (body ++ rest) → (first : List ℕ) × (bytes ≡ first ++ rest)
     regrouped bytes head body rest same = (head ++ body, same ∙ sym (append_assoc head body rest))
 
-requests_first : (bytes : List ℕ) (requests : List Request) (rest : List ℕ) → AreRequests bytes requests rest → (first : List ℕ) × (bytes ≡ first ++ rest)
-requests_first bytes [] rest same = ([], same)
-requests_first bytes (request ∷ requests) rest (next, is, are) =
-    let first = request_first bytes request next is in
-    let more = requests_first next requests rest are in
-    (first.0 ++ more.0, first.1 ∙ ap (λ w. first.0 ++ w) more.1 ∙ sym (append_assoc first.0 more.0 rest))
+pub requests_one_way : IsReadOneWay requests
+requests_one_way = record {
+  longer = request_more;
+  first = request_first;
+  one = one_request;
+  goes_on = request_goes_on;
+  taken = request_not_refused;
+  over = λ bytes why end refused. refused.goes_on end;
+}
 
--- the place where the pending bytes begin
-pub pending_at : (at : ℕ) (taken : List ℕ) (requests : List Request) (pending left : List ℕ) → AreRequests taken requests pending → at + length pending ≡ length taken → drop at (taken ++ left) ≡ pending ++ left
-pending_at at taken requests pending left are place =
-    let first = requests_first taken requests pending are in
-    let whole : length taken ≡ length first.0 + length pending = ap length first.1 ∙ (let P : List ℕ → Type 0 = λ w. length w ≡ length first.0 + length pending in grind (arith, common_steps)) in
-    let here : at ≡ length first.0 = omega (arith, whole, place) in
-    let parts : taken ++ left ≡ first.0 ++ (pending ++ left) = ap (λ w. w ++ left) first.1 ∙ append_assoc first.0 pending left in
-    ap (drop at) parts ∙ dropped at first.0 (pending ++ left) here
+abbrev pub ahead_of : wire.Ahead → Ahead
+ahead_of ahead = record { bytes = ahead.bytes; at = ahead.at }
+
+has_read : (old : SourceState) (read : List ℕ) (new : SourceState) (needed : Type 0) → HasRead old read new needed → Reads old read new
+has_read old read new needed has = record { consumed = has.consumed; count = has.count }
+
+module _ (ahead ahead' : wire.Ahead) (old new : SourceState) where
+  pub takes_request : (request : Request) → TakesRequest (input_of ahead old) request (input_of ahead' new) → TakesItem requests (ahead_of ahead) old request (ahead_of ahead') new
+  takes_request request takes = record { read = takes.read; reads = has_read _ _ _ _ takes.has_read; is_item = takes.is_request; place = takes.place; within = takes.within }
+
+  pub takes_end : EndsInput (input_of ahead old) (input_of ahead' new) → TakesNone requests (ahead_of ahead) old Done new
+  takes_end ends = record { read = ends.read; reads = has_read _ _ _ _ ends.has_read; within = omega (arith, ends.place, ends.within); cause = (ends.blank, ends.all) }
+
+  refused : (refusal : Refusal) (at : ℕ) (read : List ℕ) → HasReadOn (input_of ahead old) read (input_of ahead' new) → taken_of ahead + length read ≤ 1073741824 → IsRefusedAt (input_of ahead old) at refusal
+      → TakesNone requests (ahead_of ahead) old (BadInput at refusal) new
+  refused refusal at read has within is = record {
+    read = read;
+    reads = has_read _ _ _ _ has;
+    within = within;
+    cause = record { refusal = refusal; end_is = ap (λ at. BadInput at refusal) is.0; refused = is.1 };
+  }
+
+  pub takes_none : (fault : WireFault) → FailsWith (input_of ahead old) fault (input_of ahead' new) → TakesNone requests (ahead_of ahead) old (fault_end fault) new
+  takes_none (faults.BadRequest at) fails = refused refusals.Bad at fails.read fails.has_read fails.within fails.cause
+  takes_none (faults.TooLarge at len) fails = refused (refusals.TooLarge len) at fails.read fails.has_read fails.within fails.cause
+  takes_none (faults.Unsupported at) fails = refused refusals.Unsupported at fails.read fails.has_read fails.within fails.cause
+  takes_none faults.ReadFault fails = record { read = fails.read; reads = has_read _ _ _ _ fails.has_read; within = fails.within; cause = fails.cause }
+  takes_none faults.InputTooLong fails = record { read = fails.read; reads = has_read _ _ _ _ fails.has_read; within = fails.within; cause = fails.cause }
+  takes_none faults.NoMemory fails = record { read = fails.read; reads = has_read _ _ _ _ fails.has_read; within = fails.within; cause = tt }
+
+-- ---- how they are answered
+
+-- what an answer does to the store and the disk, and which of them are 503
+
+abbrev pub AreSteps : Type 0
+AreSteps = (seat : ℕ) (old new : Service) (request : Request) (reply : Reply) → Answers seat old request reply new → MayTakeSteps old new
+
+abbrev pub AreFaults : Type 0
+AreFaults = (seat : ℕ) (old new : Service) (request : Request) (reply : Reply) → Answers seat old request reply new → reply.status ≡ 503 → Rose old.disk.faults new.disk.faults
+
+pub requests_sound : AreReplays → AreSteps → AreFaults → IsSound requests
+requests_sound replays steps faults = record {
+  leaves = λ first old new request reply answers so_far. leaves_on replays first old new so_far (steps 0 old new request reply answers);
+  faults = λ old new request reply answers fault. faults 0 old new request reply answers (status_is reply.status fault);
+}
   where
-    dropped : (at : ℕ) (first rest : List ℕ) → at ≡ length first → drop at (first ++ rest) ≡ rest
-    dropped at first rest is = grind (arith, common_steps, is)
-
--- a sequence of requests has no place where it is refused
-pub never_refused : (bytes : List ℕ) (requests : List Request) (rest : List ℕ) (others : List Request) (more : List ℕ) (why : Refusal)
-    → AreRequests bytes requests rest → IsEnd rest → AreRequests bytes others more → IsRefused more why → ⊥
-never_refused bytes [] rest [] more why is end other refused =
-    let same : rest ≡ more = sym is ∙ other in refused.goes_on (subst IsEnd same end)
-never_refused bytes [] rest (other ∷ others) more why is end (mid, request, are) refused = request_goes_on bytes other mid request (subst IsEnd (sym is) end)
-never_refused bytes (request ∷ requests) rest [] more why (mid, is, are) end other refused =
-    request_not_refused bytes request mid why is (let P : List ℕ → Type 0 = λ b. IsRefused b why in subst P (sym other) refused)
-never_refused bytes (request ∷ requests) rest (next ∷ others) more why (mid, is, are) end (mid', is', are') refused =
-    let same = one_request bytes request next mid mid' is is' in
-    let P : List ℕ → Type 0 = λ b. AreRequests b others more in
-    never_refused mid requests rest others more why are end (subst P (sym same.1) are') refused
+    status_is : (status : ℕ) → (status == 503) ≡ true → status ≡ 503
+    status_is status is = grind (arith, nat_tests, is)

@@ -1,9 +1,11 @@
+pub mod Answering
 pub mod Command
 pub mod Exec
 pub mod ExitStatus
 pub mod Journal
 pub mod LastText
 pub mod Outside
+pub mod Protocol
 pub mod Run
 pub mod Settings
 pub mod Status

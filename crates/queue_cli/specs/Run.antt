@@ -1,23 +1,23 @@
 -- The whole promise of a run.
 use Rattle.std.specs.Prelude.{◌≡◌, ◌⊎◌, ◌≤◌, ℕ, List, [], length, Option, None, Some, IsSome, Ok, Err}
 use Rattle.sq_outside.specs.Fault.{Rose}
-use Rattle.http_wire.specs.declared.request.Request.{Request}
-use Rattle.http_wire.specs.Stream.{IsEnd}
 use Rattle.queue_config.specs.declared.config.Config.{Config}
 use Rattle.toml_members.specs.declared.fault.SettingsFault.TheVariants as fault
 use Rattle.queue_config.specs.Settings.{config_of}
 use Rattle.queue_engine.specs.Running.{Running, Store, running}
 use Rattle.queue_http.specs.Service.{DiskState, service}
+use Rattle.queue_cli.specs.Answering.{AnswersFrom, AreItems, Session, session}
 use Rattle.queue_cli.specs.Command.{command_of}
 use Rattle.queue_cli.specs.declared.command.Command.{Command}
 use Rattle.queue_cli.specs.declared.command.Command.TheVariants.{Exec, Status}
 use Rattle.queue_cli.specs.declared.end.End.{End}
 use Rattle.queue_cli.specs.declared.end.End.TheVariants.{Usage}
-use Rattle.queue_cli.specs.Exec.{AreRequests, AnswersFrom, Session, session}
+use Rattle.queue_cli.specs.Exec.{requests}
 use Rattle.queue_cli.specs.ExitStatus.{exit_status}
 use Rattle.queue_cli.specs.Journal.{HasJournal, IsAcceptedFile, IsRefusedFile, LacksJournal, Reads}
 use Rattle.queue_cli.specs.LastText.{last_text, WritesLast}
 use Rattle.queue_cli.specs.Outside.{Outside}
+use Rattle.queue_cli.specs.Protocol.{Protocol}
 use Rattle.queue_cli.specs.Settings.{HasSettings, LacksSettings}
 use Rattle.queue_cli.specs.Status.{Prints, counts_of, status_text}
 
@@ -55,9 +55,9 @@ pub record EndsWithoutJournal (old new : Outside) (end : End) : Type 0 where
 abbrev pub session_of : Running → DiskState → Outside → Session
 session_of running disk o = session (service running o.moments disk) o.input o.output
 
--- requests are answered from the recovered world on, with nothing in doubt
-abbrev pub RunsExec : Store → DiskState → Outside → Outside → End → Type 0
-RunsExec engine disk old new end = AnswersFrom (session_of (running engine None) disk old) new.input new.output new.disk new.moments end
+-- the input's items are answered from the recovered world on, with nothing in doubt
+abbrev pub RunsOn : Protocol → Store → DiskState → Outside → Outside → End → Type 0
+RunsOn p engine disk old new end = AnswersFrom p (session_of (running engine None) disk old) new.input new.output new.disk new.moments end
 
 -- the counts of the recovered world are printed, and nothing is read
 pub record RunsStatus (engine : Store) (opened : DiskState) (old new : Outside) (end : End) : Type 0 where
@@ -67,7 +67,7 @@ pub record RunsStatus (engine : Store) (opened : DiskState) (old new : Outside) 
   pub disk : new.disk ≡ opened
 
 abbrev pub RunsOver : Command → Store → DiskState → Outside → Outside → End → Type 0
-RunsOver Exec engine disk old new end = RunsExec engine disk old new end
+RunsOver Exec engine disk old new end = RunsOn requests engine disk old new end
 RunsOver Status engine disk old new end = RunsStatus engine disk old new end
 
 -- there are settings, the journal is opened, and then the disk is this one; the command works on the engine
@@ -110,14 +110,14 @@ RefusesJournal words old new status =
     → (Rose old.settings.faults new.settings.faults → ⊥) → (Rose old.disk.faults new.disk.faults → ⊥)
     → (status ≡ 8) ⊎ (status ≡ 7)
 
--- where settings and journal are accepted and the input is a sequence of requests the status of `exec` is 0, unless something
--- fails or there is no memory
-abbrev pub IsComplete : List (List ℕ) → Outside → Outside → ℕ → Type 0
-IsComplete words old new status =
-    command_of words ≡ Some Exec
+-- where settings and journal are accepted and the input is a sequence of items the status of the command that answers them is 0,
+-- unless something fails or there is no memory
+abbrev pub IsComplete : Protocol → Command → List (List ℕ) → Outside → Outside → ℕ → Type 0
+IsComplete p command words old new status =
+    command_of words ≡ Some command
     → (text : List ℕ) (settings : Config) → old.settings.left ≡ Some text → config_of text ≡ Ok settings
     → Reads IsAcceptedFile old.disk.history
-    → (bytes : List ℕ) (requests : List Request) (rest : List ℕ) → old.input.left ≡ Some bytes → AreRequests bytes requests rest → IsEnd rest → length bytes ≤ 1_073_741_824
+    → (bytes : List ℕ) (items : List p.Item) (rest : List ℕ) → old.input.left ≡ Some bytes → AreItems p bytes items rest → p.IsEnd rest → length bytes ≤ 1_073_741_824
     → (Rose old.settings.faults new.settings.faults → ⊥) → (Rose old.input.faults new.input.faults → ⊥) → (Rose old.output.faults new.output.faults → ⊥) → (Rose old.disk.faults new.disk.faults → ⊥)
     → (status ≡ 0) ⊎ (status ≡ 7)
 
@@ -135,5 +135,5 @@ pub record Runs (words : List (List ℕ)) (old new : Outside) (status : ℕ) : T
   pub outcome : HasOutcome words old new status
   pub refused : RefusesSettings words old new status
   pub refused_journal : RefusesJournal words old new status
-  pub complete : IsComplete words old new status
+  pub complete : IsComplete requests Exec words old new status
   pub complete_status : IsStatusComplete words old new status

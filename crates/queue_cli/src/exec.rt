@@ -3,7 +3,8 @@ ghost use Rattle.std.specs.Prelude.{None};
 ghost use Rattle.queue_engine.specs.Running.{running};
 ghost use Rattle.queue_engine.specs.Standing.{StandsOn};
 ghost use Rattle.queue_http.specs.Service.{disk_state, service, IsIdle};
-ghost use Rattle.queue_cli.specs.Exec.{session, AnswersFrom};
+ghost use Rattle.queue_cli.specs.Answering.{session, AnswersFrom};
+ghost use Rattle.queue_cli.specs.Exec.{requests};
 
 use crate::End;
 use http_wire::{Carry, read_request, write_reply};
@@ -27,7 +28,7 @@ pub(crate) fn exec<S: Source, K: Sink, D: Disk, C: Clock>(
 ) -> End
     requires idle { IsIdle engine.old.book }
     requires standing { StandsOn engine.old None (D.history disk.old) }
-    ensures { AnswersFrom
+    ensures { AnswersFrom requests
         (session (service (running engine.old None) (C.moments clock.old) (disk_state (D.history disk.old) (D.faults disk.old))) (S.source_state input.old) (K.sink_state output.old))
         (S.source_state input.new) (K.sink_state output.new) (disk_state (D.history disk.new) (D.faults disk.new)) (C.moments clock.new) result }
 {
