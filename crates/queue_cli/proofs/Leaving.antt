@@ -120,7 +120,7 @@ leaves_world old mid new so_far world disk = record {
 }
 
 -- nothing changes
-leaves_same : (old mid new : Service) → Leaving old mid → new.running ≡ mid.running → new.disk ≡ mid.disk → Leaving old new
+pub leaves_same : (old mid new : Service) → Leaving old mid → new.running ≡ mid.running → new.disk ≡ mid.disk → Leaving old new
 leaves_same old mid new so_far running disk = leaves_world old mid new so_far (ap (λ (r : Running). r.situation.book.world) running) disk
 
 -- the world after steps is the replay of what they accepted

@@ -1,6 +1,8 @@
 pub mod Ends
+pub mod FaultLines
 pub mod Items
 pub mod Leaving
+pub mod Lines
 pub mod Reading
 pub mod Requests
 pub mod Serving

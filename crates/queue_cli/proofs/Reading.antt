@@ -19,7 +19,7 @@ use Rattle.queue_model.specs.World.{World}
 use Rattle.queue_cli.specs.Answering.{AnswersPrefix, AreItems, Exchange, IsRefusedAt, Session, items_of}
 use Rattle.queue_cli.specs.Command.{command_of}
 use Rattle.queue_cli.specs.declared.command.Command.{Command}
-use Rattle.queue_cli.specs.declared.command.Command.TheVariants.{Exec, Status}
+use Rattle.queue_cli.specs.declared.command.Command.TheVariants.{Exec, Status, Trace}
 use Rattle.queue_cli.specs.declared.end.End.{End}
 use Rattle.queue_cli.specs.declared.end.End.TheVariants as ends
 use Rattle.queue_cli.specs.Exec.{requests}
@@ -30,7 +30,9 @@ use Rattle.queue_cli.specs.Protocol.{Protocol}
 use Rattle.queue_cli.specs.Run.{Performs, Runs, RunsOver}
 use Rattle.queue_cli.specs.Settings.{HasSettings, TakesPrefix, most_read, LacksSettings}
 use Rattle.queue_cli.specs.Status.{Prints}
+use Rattle.queue_cli.specs.Trace.{lines}
 use Rattle.queue_cli.proofs.Items.{IsReadOneWay, not_refused}
+use Rattle.queue_cli.proofs.Lines.{lines_one_way}
 use Rattle.queue_cli.proofs.Requests.{requests_one_way}
 use Rattle.queue_cli.proofs.SettingsLemmas.{judged_prefix}
 
@@ -58,6 +60,8 @@ module _ (p : Protocol) (one_way : IsReadOneWay p) (old new : Session) where
   done_or_no_memory ends.Done answers bytes items rest is are at_end short reads writes = inl refl
   done_or_no_memory (ends.BadInput at refusal) answers bytes items rest is are at_end short reads writes =
       absurd (not_refused_at (ends.BadInput at refusal) bytes items rest is are at_end answers.taken answers.pending answers.exchanges answers.consumed answers.items answers.cause)
+  done_or_no_memory (ends.BadLine at) answers bytes items rest is are at_end short reads writes =
+      absurd (not_refused_at (ends.BadLine at) bytes items rest is are at_end answers.taken answers.pending answers.exchanges answers.consumed answers.items answers.cause)
   done_or_no_memory ends.ReadFault answers bytes items rest is are at_end short reads writes = absurd (reads answers.cause.0)
   done_or_no_memory ends.WriteFault answers bytes items rest is are at_end short reads writes = absurd (writes answers.written.fault)
   done_or_no_memory ends.NoMemory answers bytes items rest is are at_end short reads writes = inr refl
@@ -192,6 +196,10 @@ runs one words old new end status performs is =
           (let Q : ℕ → Type 0 = λ status. (status ≡ 0) ⊎ (status ≡ 7) in
           subst Q (sym is) (complete one Exec old new end (subst P exec performs)
           (λ engine disk runs. done_or_no_memory requests requests_one_way _ _ end runs.answers bytes items rest here are at_end short reads writes) text settings left accepted journal file faults));
+      complete_trace = λ trace text settings left accepted journal bytes items rest here are at_end short file reads writes faults.
+          (let Q : ℕ → Type 0 = λ status. (status ≡ 0) ⊎ (status ≡ 7) in
+          subst Q (sym is) (complete one Trace old new end (subst P trace performs)
+          (λ engine disk runs. done_or_no_memory lines lines_one_way _ _ end runs.answers.answers bytes items rest here are at_end short reads writes) text settings left accepted journal file faults));
       complete_status = λ status text settings left accepted journal file writes faults.
           (let Q : ℕ → Type 0 = λ status. (status ≡ 0) ⊎ (status ≡ 7) in
           subst Q (sym is) (complete one Status old new end (subst P status performs)

@@ -1,5 +1,5 @@
 -- Requests as the items of an input.
-use Rattle.std.proofs.Common.{◌≡◌, ◌==◌, ◌+◌, ◌≤◌, ℕ, true, List, ◌++◌, length, ap, sym, ◌∙◌, arith, append_assoc}
+use Rattle.std.proofs.Common.{◌≡◌, ◌==◌, ◌+◌, ◌≤◌, ℕ, true, List, ◌++◌, length, Option, ap, sym, ◌∙◌, arith, append_assoc}
 use Rattle.std.proofs.lemmas.Bool.Decides.{nat_tests}
 use Rattle.sq_outside.specs.Fault.{Rose}
 use Rattle.sq_outside.specs.Streams.{SourceState}
@@ -12,13 +12,18 @@ use Rattle.http_wire.specs.declared.request.Request.{Request}
 use Rattle.http_wire.specs.declared.request.WireFault.{WireFault}
 use Rattle.http_wire.specs.declared.request.WireFault.TheVariants as faults
 use Rattle.http_wire.proofs.StreamLaws.{one_request, request_goes_on, request_not_refused, request_more}
-use Rattle.queue_http.specs.Service.{Answers, Service}
+use Rattle.queue_engine.specs.Running.{Store, running}
+use Rattle.queue_engine.specs.Standing.{StandsOn}
+use Rattle.queue_http.specs.Service.{Answers, DiskState, ServesFrom, Service, service}
 use Rattle.queue_http.specs.Steps.{MayTakeSteps}
+use Rattle.queue_model.specs.GoodWorld.{IsGood}
+use Rattle.situation_model.specs.Situations.{Doubt}
+use Rattle.queue_cli.specs.Answering.{Exchange}
 use Rattle.queue_cli.specs.declared.end.End.TheVariants.{Done, BadInput}
 use Rattle.queue_cli.specs.Exec.{fault_end, requests}
 use Rattle.queue_cli.proofs.Items.{IsReadOneWay}
 use Rattle.queue_cli.proofs.Leaving.{AreReplays, leaves_on}
-use Rattle.queue_cli.proofs.Serving.{Ahead, IsSound, Reads, TakesItem, TakesNone}
+use Rattle.queue_cli.proofs.Serving.{Ahead, ExchangedOn, IsSound, Reads, TakesItem, TakesNone, exchanged_on}
 
 -- ---- how they are read
 
@@ -78,7 +83,7 @@ AreSteps = (seat : ℕ) (old new : Service) (request : Request) (reply : Reply) 
 abbrev pub AreFaults : Type 0
 AreFaults = (seat : ℕ) (old new : Service) (request : Request) (reply : Reply) → Answers seat old request reply new → reply.status ≡ 503 → Rose old.disk.faults new.disk.faults
 
-pub requests_sound : AreReplays → AreSteps → AreFaults → IsSound requests
+requests_sound : AreReplays → AreSteps → AreFaults → IsSound requests
 requests_sound replays steps faults = record {
   leaves = λ first old new request reply answers so_far. leaves_on replays first old new so_far (steps 0 old new request reply answers);
   faults = λ old new request reply answers fault. faults 0 old new request reply answers (status_is reply.status fault);
@@ -86,3 +91,11 @@ requests_sound replays steps faults = record {
   where
     status_is : (status : ℕ) → (status == 503) ≡ true → status ≡ 503
     status_is status is = grind (arith, nat_tests, is)
+
+-- a request is answered over an engine that stands on the disk
+pub request_exchanged : AreReplays → AreSteps → AreFaults → (engine : Store) (doubt : Doubt) (moments : Option (List ℕ)) (disk : DiskState) (exchange : Exchange requests) (engine' : Store) (moments' : Option (List ℕ)) (disk' : DiskState)
+    → ServesFrom 0 engine moments disk exchange.item exchange.reply engine' moments' disk' → StandsOn engine doubt disk.history → IsGood engine'.book.world → disk.faults ≤ disk'.faults
+    → ExchangedOn requests (service (running engine doubt) moments disk) exchange engine' moments' disk'
+request_exchanged replays steps faults engine doubt moments disk exchange engine' moments' disk' serves stands good later =
+    let served = serves doubt stands in
+    exchanged_on requests (requests_sound replays steps faults) (service (running engine doubt) moments disk) exchange engine' served.doubt moments' disk' served.answers served.stands good later

@@ -16,7 +16,7 @@ use Rattle.queue_http.specs.Service.{DiskState, Service, service}
 use Rattle.queue_model.specs.GoodWorld.{IsGood}
 use Rattle.situation_model.specs.Situations.{Doubt}
 use Rattle.queue_cli.specs.declared.end.End.{End}
-use Rattle.queue_cli.specs.declared.end.End.TheVariants.{Done, BadInput, ReadFault, WriteFault, NoMemory, InputTooLong}
+use Rattle.queue_cli.specs.declared.end.End.TheVariants.{Done, BadInput, BadLine, ReadFault, WriteFault, NoMemory, InputTooLong}
 use Rattle.queue_cli.specs.Answering.{AnswersFrom, AnswersPrefix, AreAnswered, AreItems, CountsFaults, EndsFor, Exchange, IsAnswered, IsRefusedAt, Session, WritesReplies, items_of, most_taken, reply_texts, session}
 use Rattle.queue_cli.specs.LastText.{last_text, IsReported, IsUnreported, WritesLast, Reports}
 use Rattle.queue_cli.specs.Protocol.{Protocol}
@@ -57,6 +57,7 @@ pub record IsRefusedAhead (p : Protocol) (end : End) (ahead : Ahead) (old : Sour
 abbrev pub HasCause : (p : Protocol) → Ahead → (old : SourceState) → (read : List ℕ) → (new : SourceState) → End → Type 0
 HasCause p ahead old read new Done = p.IsEnd (ahead.bytes ++ read) × HasReadAll old.left read
 HasCause p ahead old read new (BadInput at refusal) = IsRefusedAhead p (BadInput at refusal) ahead old
+HasCause p ahead old read new (BadLine at) = IsRefusedAhead p (BadLine at) ahead old
 HasCause p ahead old read new ReadFault = Rose old.faults new.faults × p.IsUnfinished (ahead.bytes ++ read)
 HasCause p ahead old read new NoMemory = Unit {0}
 HasCause p ahead old read new InputTooLong = IsPastLimit (taken_of ahead) read (λ prefix. p.IsUnfinished (ahead.bytes ++ prefix))
@@ -176,7 +177,7 @@ module _ (p : Protocol) (one_way : IsReadOneWay p) (old mid new : Session) (ahea
       flat_map-append (λ (exchange : Exchange p). p.text exchange.reply) exchanges (exchange ∷ []) ∙ ap (λ w. reply_texts exchanges ++ w) (append-nil (p.text exchange.reply))
 
   -- its reply is written
-  pub serve_more : (ahead' : Ahead) (exchange : Exchange p) → Serving p old mid ahead → TakesItem p ahead mid.input exchange.item ahead' new.input → Exchanged p mid.service exchange new.service
+  serve_more : (ahead' : Ahead) (exchange : Exchange p) → Serving p old mid ahead → TakesItem p ahead mid.input exchange.item ahead' new.input → Exchanged p mid.service exchange new.service
       → Appends mid.output.written new.output.written (p.text exchange.reply) → mid.output.faults ≤ new.output.faults → Serving p old new ahead'
   serve_more ahead' exchange serving takes answers written writes = record {
     answering = answered_more ahead' exchange serving.answering takes answers;
@@ -189,7 +190,7 @@ module _ (p : Protocol) (one_way : IsReadOneWay p) (old mid new : Session) (ahea
   }
 
   -- its reply can't be written
-  pub unwritten : (ahead' : Ahead) (exchange : Exchange p) → Serving p old mid ahead → TakesItem p ahead mid.input exchange.item ahead' new.input → Exchanged p mid.service exchange new.service
+  unwritten : (ahead' : Ahead) (exchange : Exchange p) → Serving p old mid ahead → TakesItem p ahead mid.input exchange.item ahead' new.input → Exchanged p mid.service exchange new.service
       → AppendsPrefix mid.output.written new.output.written (p.text exchange.reply) → Rose mid.output.faults new.output.faults → AnswersPrefix p old new WriteFault
   unwritten ahead' exchange serving takes answers part rose =
       let answering = answered_more ahead' exchange serving.answering takes answers in
@@ -262,6 +263,7 @@ module _ (p : Protocol) (one_way : IsReadOneWay p) where
       → EndsFor p old.input new (answering.taken ++ read) (ahead.bytes ++ read) end
   ends_for old mid ahead read new Done answering (end, all) = (end, all_read old.input.left mid.input.left answering.taken read answering.consumed all)
   ends_for old mid ahead read new (BadInput at refusal) answering refused = refused_at old mid ahead read (BadInput at refusal) answering refused
+  ends_for old mid ahead read new (BadLine at) answering refused = refused_at old mid ahead read (BadLine at) answering refused
   ends_for old mid ahead read new ReadFault answering (rose, partly) = (rose_from old.input.faults mid.input.faults new.faults answering.reads rose, partly)
   ends_for old mid ahead read new NoMemory answering cause = tt
   ends_for old mid ahead read new InputTooLong answering past = record {
@@ -314,16 +316,53 @@ module _ (p : Protocol) (one_way : IsReadOneWay p) where
         by_report NoMemory takes (record { same = none.memory; written = nothing mid.output new.output none.output })
 
     -- no item was taken, and this is reported
-    pub ends : (found : End) → TakesNone p ahead mid.input found new.input → Reports mid.output new.output found end → AnswersPrefix p old new end
+    ends : (found : End) → TakesNone p ahead mid.input found new.input → Reports mid.output new.output found end → AnswersPrefix p old new end
     ends Done takes is = by_report Done takes is
     ends (BadInput at refusal) takes (inl is) = by_report (BadInput at refusal) takes is
     ends (BadInput at refusal) takes (inr none) = by_memory takes.read takes.reads takes.within none
+    ends (BadLine at) takes (inl is) = by_report (BadLine at) takes is
+    ends (BadLine at) takes (inr none) = by_memory takes.read takes.reads takes.within none
     ends ReadFault takes is = by_report ReadFault takes is
     ends NoMemory takes is = by_report NoMemory takes is
     ends InputTooLong takes is = by_report InputTooLong takes is
     ends other takes is = absurd takes.cause
 
--- the end of a run over an engine that stands on the disk
-pub ends_on : (p : Protocol) (old : Session) (engine : Store) (doubt : Doubt) (moments : Option (List ℕ)) (disk : DiskState) (input : SourceState) (output : SinkState) (end : End) → StandsOn engine doubt disk.history
-    → AnswersPrefix p old (session (service (running engine doubt) moments disk) input output) end → AnswersFrom p old input output disk moments end
-ends_on p old engine doubt moments disk input output end stands answers = record { running = running engine doubt; answers = answers; kept = stands.kept }
+-- ---- over an engine that stands on the disk
+
+module _ (p : Protocol) (one_way : IsReadOneWay p) (first : Session) (engine : Store) (moments : Option (List ℕ)) (disk : DiskState) (input input' : SourceState) (output output' : SinkState) (ahead : Ahead)
+    (on : ServingOn p first engine moments disk input output ahead) where
+  abbrev mid : Session
+  mid = session (service (running engine on.doubt) moments disk) input output
+
+  module _ (exchange : Exchange p) (engine' : Store) (moments' : Option (List ℕ)) (disk' : DiskState) (ahead' : Ahead) (takes : TakesItem p ahead input exchange.item ahead' input')
+      (next : ExchangedOn p mid.service exchange engine' moments' disk') where
+    abbrev new : Session
+    new = session (service (running engine' next.doubt) moments' disk') input' output'
+
+    -- one more item is answered, and its reply is written
+    pub written_on : Appends output.written output'.written (p.text exchange.reply) → output.faults ≤ output'.faults → ServingOn p first engine' moments' disk' input' output' ahead'
+    written_on written writes = record {
+      doubt = next.doubt;
+      stands = next.stands;
+      serving = serve_more p one_way first mid new ahead ahead' exchange on.serving takes next.exchanged written writes;
+    }
+
+    -- or it can't be written
+    pub unwritten_on : AppendsPrefix output.written output'.written (p.text exchange.reply) → Rose output.faults output'.faults → AnswersFrom p first input' output' disk' moments' WriteFault
+    unwritten_on part rose = record {
+      running = running engine' next.doubt;
+      answers = unwritten p one_way first mid new ahead ahead' exchange on.serving takes next.exchanged part rose;
+      kept = next.stands.kept;
+    }
+
+  -- no item was taken, and this is reported
+  pub ends_on : (end found : End) → TakesNone p ahead input found input' → Reports output output' found end → AnswersFrom p first input' output' disk moments end
+  ends_on end found takes reports = record {
+    running = running engine on.doubt;
+    answers = ends p one_way first mid (session (service (running engine on.doubt) moments disk) input' output') ahead end on.serving refl found takes reports;
+    kept = on.stands.kept;
+  }
+
+  -- and nothing is written
+  pub done_on : TakesNone p ahead input Done input' → output ≡ output' → AnswersFrom p first input' output' disk moments Done
+  done_on takes same = ends_on Done Done takes (record { same = refl; written = nothing output output' same })

@@ -15,7 +15,7 @@ use Rattle.situation_model.specs.Situations.{Doubt}
 use Rattle.queue_engine.specs.Running.{Running}
 use Rattle.queue_http.specs.Service.{DiskState, Service, service}
 use Rattle.queue_cli.specs.declared.end.End.{End}
-use Rattle.queue_cli.specs.declared.end.End.TheVariants.{Done, BadInput, ReadFault, WriteFault, NoMemory, InputTooLong}
+use Rattle.queue_cli.specs.declared.end.End.TheVariants.{Done, BadInput, BadLine, ReadFault, WriteFault, NoMemory, InputTooLong}
 use Rattle.queue_cli.specs.LastText.{last_text, WritesLast}
 use Rattle.queue_cli.specs.Protocol.{Protocol}
 
@@ -101,6 +101,7 @@ pub record IsRefusedAt (p : Protocol) (end : End) (old : SourceState) (taken pen
 abbrev pub EndsFor : (p : Protocol) (old new : SourceState) (taken pending : List ℕ) → End → Type 0
 EndsFor p old new taken pending Done = p.IsEnd pending × HasReadAll old.left taken
 EndsFor p old new taken pending (BadInput at refusal) = IsRefusedAt p (BadInput at refusal) old taken pending
+EndsFor p old new taken pending (BadLine at) = IsRefusedAt p (BadLine at) old taken pending
 EndsFor p old new taken pending ReadFault = Rose old.faults new.faults × p.IsUnfinished pending
 EndsFor p old new taken pending WriteFault = Unit {0}
 EndsFor p old new taken pending NoMemory = Unit {0}

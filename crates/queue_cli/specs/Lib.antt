@@ -9,3 +9,4 @@ pub mod Protocol
 pub mod Run
 pub mod Settings
 pub mod Status
+pub mod Trace

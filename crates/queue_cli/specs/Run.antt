@@ -9,7 +9,7 @@ use Rattle.queue_http.specs.Service.{DiskState, service}
 use Rattle.queue_cli.specs.Answering.{AnswersFrom, AreItems, Session, session}
 use Rattle.queue_cli.specs.Command.{command_of}
 use Rattle.queue_cli.specs.declared.command.Command.{Command}
-use Rattle.queue_cli.specs.declared.command.Command.TheVariants.{Exec, Status}
+use Rattle.queue_cli.specs.declared.command.Command.TheVariants.{Exec, Status, Trace}
 use Rattle.queue_cli.specs.declared.end.End.{End}
 use Rattle.queue_cli.specs.declared.end.End.TheVariants.{Usage}
 use Rattle.queue_cli.specs.Exec.{requests}
@@ -20,6 +20,7 @@ use Rattle.queue_cli.specs.Outside.{Outside}
 use Rattle.queue_cli.specs.Protocol.{Protocol}
 use Rattle.queue_cli.specs.Settings.{HasSettings, LacksSettings}
 use Rattle.queue_cli.specs.Status.{Prints, counts_of, status_text}
+use Rattle.queue_cli.specs.Trace.{lines}
 
 -- ---- how each command ends
 
@@ -66,9 +67,15 @@ pub record RunsStatus (engine : Store) (opened : DiskState) (old new : Outside) 
   pub moments : new.moments ≡ old.moments
   pub disk : new.disk ≡ opened
 
+-- lines are answered so, and the clock isn't asked
+pub record RunsTrace (engine : Store) (opened : DiskState) (old new : Outside) (end : End) : Type 0 where
+  pub answers : RunsOn lines engine opened old new end
+  pub moments : new.moments ≡ old.moments
+
 abbrev pub RunsOver : Command → Store → DiskState → Outside → Outside → End → Type 0
 RunsOver Exec engine disk old new end = RunsOn requests engine disk old new end
 RunsOver Status engine disk old new end = RunsStatus engine disk old new end
+RunsOver Trace engine disk old new end = RunsTrace engine disk old new end
 
 -- there are settings, the journal is opened, and then the disk is this one; the command works on the engine
 pub record RunsOpened (command : Command) (old new : Outside) (end : End) : Type 0 where
@@ -136,4 +143,5 @@ pub record Runs (words : List (List ℕ)) (old new : Outside) (status : ℕ) : T
   pub refused : RefusesSettings words old new status
   pub refused_journal : RefusesJournal words old new status
   pub complete : IsComplete requests Exec words old new status
+  pub complete_trace : IsComplete lines Trace words old new status
   pub complete_status : IsStatusComplete words old new status

@@ -11,6 +11,7 @@ use crate::End;
 use crate::exec::exec;
 use crate::settings::read_settings;
 use crate::status::status;
+use crate::trace::trace;
 use journal_replay::one_verdict;
 use queue_engine::Engine;
 use sq_outside::{Clock, Disk, Sink, Source};
@@ -23,6 +24,8 @@ pub(crate) enum Command {
     Exec,
     /// Prints counts of the store.
     Status,
+    /// Does what the lines of a trace ask for.
+    Trace,
 }
 
 impl Command {
@@ -36,6 +39,7 @@ impl Command {
         match words {
             [word] if word.as_str() == "exec" => Some(Command::Exec),
             [word] if word.as_str() == "status" => Some(Command::Status),
+            [word] if word.as_str() == "trace" => Some(Command::Trace),
             _ => None,
         }
     }
@@ -126,5 +130,6 @@ fn perform_over<S: Source, K: Sink, D: Disk, C: Clock>(
     match command {
         Command::Exec => exec(alloc, engine, input, output, disk, clock),
         Command::Status => status(alloc, engine.view(), output),
+        Command::Trace => trace(alloc, engine, input, output, disk),
     }
 }

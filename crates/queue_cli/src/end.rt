@@ -4,13 +4,16 @@ ghost use Rattle.queue_cli.specs.Exec.{fault_end};
 ghost use Rattle.queue_cli.specs.ExitStatus as status;
 ghost use Rattle.queue_cli.specs.Journal.{open_end};
 ghost use Rattle.queue_cli.specs.LastText.{bad_record_line, not_a_journal_line, settings_line, version_line, Reports};
+ghost use Rattle.queue_cli.specs.Trace.{input_end};
 
+use crate::printing::print_line;
 use http_wire::{Refusal, WireFault, write_all, write_reply};
 use journal_keeper::OpenFault;
 use queue_config::Key;
 use queue_http::fault_reply;
 use sq_outside::Sink;
 use std::alloc::{AllocError, Global};
+use trace_lines::{InputFault, Printed};
 
 /// How a run ended.
 #[derive(Drop)]
@@ -19,6 +22,8 @@ pub enum End {
     Done,
     /// The input isn't a sequence of requests: this is refused at this place.
     BadInput { at: u64, refusal: Refusal },
+    /// The input isn't a trace: no line stands at this place.
+    BadLine { at: u64 },
     /// The words are no command.
     Usage,
     /// The settings are refused: the number of what is wrong, and the key that has it.
@@ -49,7 +54,7 @@ impl End {
     {
         match self {
             End::Done => 0,
-            End::BadInput { .. } => 1,
+            End::BadInput { .. } | End::BadLine { .. } => 1,
             End::Usage => 2,
             End::BadSettings { .. } => 3,
             End::ReadFault => 4,
@@ -84,6 +89,18 @@ impl End {
         }
     }
 
+    /// The end that a fault of a trace's input is.
+    pub(crate) fn of_input_fault(fault: InputFault) -> Self
+        ensures { result ≡ input_end fault }
+    {
+        match fault {
+            InputFault::BadLine { at } => End::BadLine { at },
+            InputFault::ReadFault => End::ReadFault,
+            InputFault::InputTooLong => End::InputTooLong,
+            InputFault::NoMemory => End::NoMemory,
+        }
+    }
+
     /// The end that a fault of the opening of the journal is.
     pub(crate) fn of_open_fault(fault: OpenFault) -> Self
         ensures { result ≡ open_end fault }
@@ -109,6 +126,12 @@ impl End {
                     return End::NoMemory;
                 };
                 let _ = write_reply(output, &reply);
+            }
+            End::BadLine { at } => {
+                let Ok(printed) = Printed::bad_line(alloc, *at) else {
+                    return End::NoMemory;
+                };
+                let _ = print_line(output, printed.as_slice());
             }
             End::BadSettings { number, key } => {
                 let Ok(line) = settings_line(alloc, *number, key.as_str()) else {

@@ -4,10 +4,12 @@
 mod command;
 mod end;
 mod exec;
+mod printing;
 mod settings;
 mod status;
 #[cfg(test)]
 mod tests;
+mod trace;
 
 pub use command::{is_command, run};
 pub use end::End;

@@ -1,15 +1,13 @@
 use Rattle.std.proofs.Common.{◌≡◌, None, true, false, is_err, ◌∙◌, ap, sym, subst, refl, arith}
 use Rattle.http_wire.specs.Ahead as wire
-use Rattle.queue_engine.specs.Running.{running}
-use Rattle.queue_http.specs.Service.{disk_state, service}
+use Rattle.queue_http.specs.Service.{disk_state}
 use Rattle.queue_cli.specs.Answering.{Exchange}
 use Rattle.queue_cli.specs.declared.end.End.{End}
-use Rattle.queue_cli.specs.declared.end.End.TheVariants.{Done}
 use Rattle.queue_cli.specs.Exec.{requests}
 use Rattle.queue_cli.specs.LastText.{Reports}
-use Rattle.queue_cli.proofs.Ends.{err_known, if_none, nothing, ok_known}
-use Rattle.queue_cli.proofs.Requests.{requests_one_way, requests_sound, takes_end, takes_none, takes_request}
-use Rattle.queue_cli.proofs.Serving.{at_start, ends, ends_on, exchanged_on, serve_more, unwritten}
+use Rattle.queue_cli.proofs.Ends.{err_known, if_none, ok_known}
+use Rattle.queue_cli.proofs.Requests.{request_exchanged, requests_one_way, takes_end, takes_none, takes_request}
+use Rattle.queue_cli.proofs.Serving.{at_start, done_on, ends_on, unwritten_on, written_on}
 use Rattle.queue_cli.proofs.exec.exec.Goals as goal
 
 pub requests-init : goal.requests-init
@@ -33,51 +31,42 @@ pub returns-then-is_err : goal.returns-then-is_err
 returns-then-is_err g c =
     let on = c.requests.invariant.on in
     let exchange : Exchange requests = record { item = c.in-Ok-Some.request; reply = c.answer-reply.result } in
-    let serves = c.answer-reply.ensures.serves on.doubt on.stands in
-    let next = exchanged_on requests (requests_sound c.worlds_are_replays.ensures c.answers_are_steps.ensures c.only_faults_are_503.ensures)
-    (service (running c.requests.engine on.doubt) (g.C.Clock.moments c.requests.clock) (disk_state (g.D.Disk.history c.requests.disk) (g.D.Disk.faults c.requests.disk)))
-    exchange c.answer-reply.new.engine serves.doubt (g.C.Clock.moments c.answer-reply.new.clock) (disk_state (g.D.Disk.history c.answer-reply.new.disk) (g.D.Disk.faults c.answer-reply.new.disk))
-    serves.answers serves.stands c.answer-reply.ensures.good.situation.book.world c.answer-reply.ensures.faults in
-    let err : is_err c.write_reply.result ≡ true = sym c.is_err.ensures.value ∙ c.if-is_err.true in
+    let old = disk_state (g.D.Disk.history c.requests.disk) (g.D.Disk.faults c.requests.disk) in
+    let new = disk_state (g.D.Disk.history c.answer-reply.new.disk) (g.D.Disk.faults c.answer-reply.new.disk) in
+    let next = request_exchanged c.worlds_are_replays.ensures c.answers_are_steps.ensures c.only_faults_are_503.ensures
+    c.requests.engine on.doubt (g.C.Clock.moments c.requests.clock) old exchange c.answer-reply.new.engine (g.C.Clock.moments c.answer-reply.new.clock) new
+    c.answer-reply.ensures.serves on.stands c.answer-reply.ensures.good.situation.book.world c.answer-reply.ensures.faults in
     let takes = if_none c.requests.carry.over _ c.requests.invariant.goes_on (rw c.in-Ok-Some.field-0-is at c.in-Ok-Some.ensures.answer) in
-    ends_on requests _ _ next.doubt _ _ _ _ _ next.stands
-    (unwritten requests requests_one_way _ _ _ _ _ exchange on.serving (takes_request _ _ _ _ _ takes) next.exchanged
-    (err_known c.write_reply.result _ err c.write_reply.ensures.prefix) (err_known c.write_reply.result _ err c.write_reply.ensures.cause))
+    let err : is_err c.write_reply.result ≡ true = sym c.is_err.ensures.value ∙ c.if-is_err.true in
+    unwritten_on requests requests_one_way _ _ _ _ _ _ _ _ _ on exchange _ _ _ _ (takes_request _ _ _ _ _ takes) next
+    (err_known c.write_reply.result _ err c.write_reply.ensures.prefix) (err_known c.write_reply.result _ err c.write_reply.ensures.cause)
 
 pub requests-preserved : goal.requests-preserved
 requests-preserved g c =
     let on = c.requests.invariant.on in
     let exchange : Exchange requests = record { item = c.in-Ok-Some.request; reply = c.answer-reply.result } in
-    let serves = c.answer-reply.ensures.serves on.doubt on.stands in
-    let next = exchanged_on requests (requests_sound c.worlds_are_replays.ensures c.answers_are_steps.ensures c.only_faults_are_503.ensures)
-    (service (running c.requests.engine on.doubt) (g.C.Clock.moments c.requests.clock) (disk_state (g.D.Disk.history c.requests.disk) (g.D.Disk.faults c.requests.disk)))
-    exchange c.answer-reply.new.engine serves.doubt (g.C.Clock.moments c.answer-reply.new.clock) (disk_state (g.D.Disk.history c.answer-reply.new.disk) (g.D.Disk.faults c.answer-reply.new.disk))
-    serves.answers serves.stands c.answer-reply.ensures.good.situation.book.world c.answer-reply.ensures.faults in
-    let ok : is_err c.write_reply.result ≡ false = sym c.is_err.ensures.value ∙ c.if-is_err.false in
+    let old = disk_state (g.D.Disk.history c.requests.disk) (g.D.Disk.faults c.requests.disk) in
+    let new = disk_state (g.D.Disk.history c.answer-reply.new.disk) (g.D.Disk.faults c.answer-reply.new.disk) in
+    let next = request_exchanged c.worlds_are_replays.ensures c.answers_are_steps.ensures c.only_faults_are_503.ensures
+    c.requests.engine on.doubt (g.C.Clock.moments c.requests.clock) old exchange c.answer-reply.new.engine (g.C.Clock.moments c.answer-reply.new.clock) new
+    c.answer-reply.ensures.serves on.stands c.answer-reply.ensures.good.situation.book.world c.answer-reply.ensures.faults in
     let takes = if_none c.requests.carry.over _ c.requests.invariant.goes_on (rw c.in-Ok-Some.field-0-is at c.in-Ok-Some.ensures.answer) in
+    let ok : is_err c.write_reply.result ≡ false = sym c.is_err.ensures.value ∙ c.if-is_err.false in
     record {
       within = (let within = takes.within in omega (arith, within));
       goes_on = if_none c.requests.carry.over _ c.requests.invariant.goes_on c.in-Ok-Some.ensures.then;
       idle = c.answer-reply.ensures.idle;
-      on = record {
-        doubt = next.doubt;
-        stands = next.stands;
-        serving = serve_more requests requests_one_way _ _ _ _ _ exchange on.serving (takes_request _ _ _ _ _ takes) next.exchanged
-            (ok_known c.write_reply.result _ ok c.write_reply.ensures.whole) c.write_reply.ensures.count;
-      };
+      on = written_on requests requests_one_way _ _ _ _ _ _ _ _ _ on exchange _ _ _ _ (takes_request _ _ _ _ _ takes) next
+          (ok_known c.write_reply.result _ ok c.write_reply.ensures.whole) c.write_reply.ensures.count;
     }
 
 pub returns-in-Ok-None : goal.returns-in-Ok-None
 returns-in-Ok-None g c =
-    let on = c.requests.invariant.on in
     let over = if_none c.requests.carry.over _ c.requests.invariant.goes_on (rw c.in-Ok-None.field-0-is at c.in-Ok-None.ensures.answer) in
-    ends_on requests _ _ on.doubt _ _ _ _ _ on.stands
-    (ends requests requests_one_way _ _ _ _ Done on.serving refl Done (takes_end _ _ _ _ over) (record { same = refl; written = nothing _ _ refl }))
+    done_on requests requests_one_way _ _ _ _ _ _ _ _ _ c.requests.invariant.on (takes_end _ _ _ _ over) refl
 
 pub returns-in-Err : goal.returns-in-Err
 returns-in-Err g c =
-    let on = c.requests.invariant.on in
     let fails = if_none c.requests.carry.over _ c.requests.invariant.goes_on c.in-Err.ensures.answer in
     let P : End → Type 0 = λ end. Reports (g.K.Sink.sink_state c.requests.output) (g.K.Sink.sink_state c.report.new.output) end c.report.result in
-    ends_on requests _ _ on.doubt _ _ _ _ _ on.stands
-    (ends requests requests_one_way _ _ _ _ c.report.result on.serving refl _ (takes_none _ _ _ _ c.in-Err.fault fails) (subst P c.of_fault.ensures c.report.ensures.reports))
+    ends_on requests requests_one_way _ _ _ _ _ _ _ _ _ c.requests.invariant.on c.report.result _ (takes_none _ _ _ _ c.in-Err.fault fails) (subst P c.of_fault.ensures c.report.ensures.reports)

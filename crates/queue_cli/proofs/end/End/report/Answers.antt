@@ -1,6 +1,6 @@
 use Rattle.std.proofs.Common.{◌∙◌, inl, refl, ap}
 use Rattle.http_wire.specs.Reply.{reply_text}
-use Rattle.queue_cli.specs.LastText.{settings_line}
+use Rattle.queue_cli.specs.LastText.{printed_line, settings_line}
 use Rattle.queue_cli.proofs.Ends.{last_written}
 use Rattle.queue_cli.proofs.end.End.report.Goals as goal
 
@@ -9,6 +9,13 @@ returns-in-Ok-clause-reports g c =
     rw c.in-BadInput.is (inl (record {
       same = refl;
       written = last_written c.write_reply.result _ _ (reply_text c.in-Ok.reply) _ (ap reply_text c.in-Ok.ensures.reply) c.write_reply.ensures.whole c.write_reply.ensures.prefix c.write_reply.ensures.cause;
+    }))
+
+pub returns-in-Ok-bad_line-clause-reports : goal.returns-in-Ok-bad_line-clause-reports
+returns-in-Ok-bad_line-clause-reports g c =
+    rw c.in-BadLine.is (inl (record {
+      same = refl;
+      written = last_written c.print_line.result _ _ (printed_line c.as_slice.result.now) _ (ap printed_line (c.as_slice.ensures ∙ c.in-Ok-bad_line.ensures)) c.print_line.ensures.whole c.print_line.ensures.prefix c.print_line.ensures.cause;
     }))
 
 pub returns-in-Ok-settings_line-clause-reports : goal.returns-in-Ok-settings_line-clause-reports
