@@ -62,6 +62,128 @@ POST /processes/1/jobs/1/done  => 200 {"id":1,"state":"finished","unblocked":2}"
 const DISCARDED: &str = r#"POST /jobs {"job_class":"C","job_id":"1"} => 201 {"id":1,"state":"ready"}
 POST /jobs {"job_class":"C","job_id":"2"} => 200 {"id":null,"state":"discarded"}"#;
 
+/// Settings for traces: also classes with rules on errors.
+const RULES: &str = r#"
+[jobs]
+clear_after = 1
+[[classes]]
+name = "A"
+[[classes]]
+name = "B"
+limit = { key_argument = 0 }
+[[classes]]
+name = "C"
+limit = { key = "k", on_conflict = "discard" }
+[[classes]]
+name = "R"
+rules = [{ on = ["NetError"], do = "retry", wait = "polynomially_longer", attempts = 4 }]
+[[classes]]
+name = "S"
+rules = [{ on = ["NetError"], do = "retry" }, { on = ["StandardError"], do = "discard" }]
+"#;
+
+/// Traces: a line, and after ` => ` what is printed for it.
+const TRACES: [&str; 12] = [
+    // a permit of a generation that lapsed isn't given back
+    r#"@0 0 do enqueue B q 0 x - => {"id":1,"state":"ready"}
+@0 0 do register worker w => {"pid":1}
+@1 0 do poll 1 1 q => {"ids":[1]}
+@180000000 0 do expire => {"count":1}
+@180000000 0 do enqueue B q 0 x - => {"id":2,"state":"ready"}
+@180000000 0 do enqueue B q 0 x - => {"id":3,"state":"blocked"}
+@180000001 0 do done 1 1 => {"id":1,"state":"finished","unblocked":null}
+@360000000 0 do expire => {"count":1}
+@360000000 0 do unblock => {"count":1}"#,
+    // a process whose rows another seat holds isn't pruned
+    r#"@20 0 do enqueue A q 0 - - => {"id":1,"state":"ready"}
+@20 0 do register worker w => {"pid":1}
+@300000020 0 begin poll 1 1 * => open
+@300000020 1 do prune => {"failed":0,"pid":null}
+0 commit => {"ids":[1]}
+@300000021 1 do prune => {"failed":1,"pid":1}"#,
+    r#"@1000 0 do register worker w => {"pid":1}
+@300000999 0 do prune => {"failed":0,"pid":null}
+@300001000 0 do prune => {"failed":0,"pid":1}"#,
+    r#"@1000 0 do register worker w => {"pid":1}
+@2000 0 do beat 1 => {"pid":1}
+@300001999 0 do prune => {"failed":0,"pid":null}
+@300002000 0 do prune => {"failed":0,"pid":1}"#,
+    // a key that another seat holds doesn't lapse
+    r#"@0 0 do enqueue B q 0 x - => {"id":1,"state":"ready"}
+@0 0 do enqueue B q 0 x - => {"id":2,"state":"blocked"}
+@1 0 begin discard 1 => open
+@180000000 1 do expire => {"count":0}
+0 commit => {"id":1,"state":"discarded","unblocked":2}
+@180000001 0 do register worker w => {"pid":1}
+@180000001 0 do poll 1 5 * => {"ids":[2]}"#,
+    // a poll leaves out what another seat holds
+    r#"@0 0 do enqueue A q 0 - - => {"id":1,"state":"ready"}
+@0 0 do enqueue A q 0 - - => {"id":2,"state":"ready"}
+@0 0 do enqueue A q 0 - - => {"id":3,"state":"ready"}
+@0 0 do enqueue A q 0 - - => {"id":4,"state":"ready"}
+@0 0 do register worker w => {"pid":1}
+@30 0 begin poll 1 2 * => open
+@30 1 begin poll 1 2 * => open
+1 commit => {"ids":[3,4]}
+0 rollback => rolled back
+@40 2 begin poll 1 2 * => open
+2 commit => {"ids":[1,2]}"#,
+    r#"@0 0 do enqueue A background 0 - - => {"id":1,"state":"ready"}
+@0 0 do enqueue A real_time 10 - - => {"id":2,"state":"ready"}
+@0 0 do enqueue A backend 0 - - => {"id":3,"state":"ready"}
+@0 0 do enqueue A real_time 5 - - => {"id":4,"state":"ready"}
+@0 0 do register worker w => {"pid":1}
+@1 0 do poll 1 3 real_time,back* => {"ids":[4,2,3]}"#,
+    r#"@0 0 do enqueue A a 0 - - => {"id":1,"state":"ready"}
+@0 0 do enqueue A b 5 - - => {"id":2,"state":"ready"}
+@0 0 do register worker w => {"pid":1}
+@0 0 do pause a => {"paused":true,"queue":"a"}
+@1 0 do poll 1 2 * => {"ids":[2]}
+@1 0 do resume a => {"paused":false,"queue":"a"}
+@1 0 do poll 1 2 * => {"ids":[1]}"#,
+    // the seats
+    r#"@1 0 begin enqueue B q 0 x - => open
+@1 0 do expire => {"error":"seat_open"}
+@1 1 begin enqueue B q 0 x - => {"by":0,"error":"locked","row":"key B/x"}
+0 commit => {"id":1,"state":"ready"}
+@2 1 do enqueue B q 0 x - => {"id":2,"state":"blocked"}
+1 commit => {"error":"seat_empty"}
+reopen => {"error":"not_built"}
+@3 1 do discard 1 => {"id":1,"state":"discarded","unblocked":2}"#,
+    // a retry by hand needs the permit
+    r#"@0 0 do enqueue C q 0 - - => {"id":1,"state":"ready"}
+@0 0 do register worker w => {"pid":1}
+@0 0 do poll 1 1 * => {"ids":[1]}
+@0 0 do raised 1 1 Oops => {"id":1,"next":null,"state":"failed","unblocked":null}
+@0 0 do enqueue C q 0 - - => {"id":2,"state":"ready"}
+@0 0 do enqueue C q 0 - - => {"id":null,"state":"discarded"}
+@0 0 do retry 1 => {"error":"semaphore_closed","key":"C/k"}
+@0 0 do discard 2 => {"id":2,"state":"discarded","unblocked":null}
+@0 0 do retry 1 => {"id":1,"state":"ready"}"#,
+    // retries wait the longer the more there were
+    r#"@0 0 do register worker w => {"pid":1}
+@0 0 do enqueue R q 0 - - => {"id":1,"state":"ready"}
+@1 0 do poll 1 1 * => {"ids":[1]}
+@2 0 do raised 1 1 NetError => {"id":1,"next":2,"state":"finished","unblocked":null}
+@3000001 0 do dispatch => {"count":0}
+@3000002 0 do dispatch => {"count":1}
+@3000003 0 do poll 1 1 * => {"ids":[2]}
+@3000003 0 do raised 1 2 NetError => {"id":2,"next":3,"state":"finished","unblocked":null}
+@21000002 0 do dispatch => {"count":0}
+@21000003 0 do dispatch => {"count":1}
+@21000004 0 do poll 1 1 * => {"ids":[3]}
+@21000004 0 do raised 1 3 NetError => {"id":3,"next":4,"state":"finished","unblocked":null}
+@104000003 0 do dispatch => {"count":0}
+@104000004 0 do dispatch => {"count":1}
+@104000005 0 do poll 1 1 * => {"ids":[4]}
+@104000005 0 do raised 1 4 NetError => {"id":4,"next":null,"state":"failed","unblocked":null}"#,
+    // the rule that was declared last is found first
+    r#"@0 0 do register worker w => {"pid":1}
+@0 0 do enqueue S q 0 - - => {"id":1,"state":"ready"}
+@1 0 do poll 1 1 * => {"ids":[1]}
+@2 0 do raised 1 1 NetError => {"id":1,"next":null,"state":"finished","unblocked":null}"#,
+];
+
 /// Two runs over one disk, and what the second one finds.
 const KEPT: [&str; 2] = [
     r#"POST /jobs {"job_class":"A","job_id":"1"} => 201 {"id":1,"state":"ready"}"#,
@@ -319,5 +441,133 @@ fn each_run_ends_with_its_status(rt: HostRuntime) -> Result<(), Fail> {
         );
     }
     assert_eq!(rt; sink.bytes(), b"usage\n".as_slice());
+    Ok(())
+}
+
+/// Plays a trace, which prints what is expected.
+fn prints<R: Abort>(rt: &R, alloc: Global, lines: &str, expected: &str) -> Result<(), Fail> {
+    let mut disk = disk_of(alloc, Vec::new(alloc), 0)?;
+    let mut sink = MemSink::new(alloc, Vec::new(alloc));
+    let status = command(alloc, "trace", RULES, lines, &mut sink, &mut disk)?;
+    let written = str::from_utf8(sink.bytes())?;
+    assert_eq!(rt; written, expected);
+    assert_eq!(rt; status, 0);
+    Ok(())
+}
+
+#[test]
+fn traces_are_played_by_the_tables(rt: HostRuntime) -> Result<(), Fail> {
+    let alloc = rt.alloc();
+    for trace in TRACES {
+        let mut lines = String::new(alloc);
+        let mut expected = String::new(alloc);
+        for row in trace.lines() {
+            let (line, printed) = row.split_once(" => ").ok_or("no arrow")?;
+            writeln!(&mut lines, "{line}")?;
+            writeln!(&mut expected, "{printed}")?;
+        }
+        prints(&rt, alloc, &lines, &expected)?;
+    }
+    Ok(())
+}
+
+/// A process that has 500 claims, with those of two seats that are open, may claim no more.
+#[test]
+fn open_polls_count_as_claims(rt: HostRuntime) -> Result<(), Fail> {
+    let alloc = rt.alloc();
+    let mut lines = String::new(alloc);
+    let mut expected = String::new(alloc);
+    for id in 1..502_u64 {
+        writeln!(&mut lines, "@0 0 do enqueue A q 0 - -")?;
+        writeln!(&mut expected, "{{\"id\":{id},\"state\":\"ready\"}}")?;
+    }
+    writeln!(&mut lines, "@0 0 do register worker w")?;
+    writeln!(&mut expected, "{{\"pid\":1}}")?;
+    for seat in 0..5_u64 {
+        writeln!(&mut lines, "@1 {seat} begin poll 1 100 *")?;
+        writeln!(&mut expected, "open")?;
+    }
+    for seat in 0..3_u64 {
+        writeln!(&mut lines, "{seat} commit")?;
+        expected.push_str("{\"ids\":[")?;
+        for place in 1..101_u64 {
+            let id = 100 * seat + place;
+            write!(&mut expected, "{id}")?;
+            expected.push_str(if place < 100 { "," } else { "]}\n" })?;
+        }
+    }
+    writeln!(&mut lines, "@1 5 do poll 1 1 *")?;
+    writeln!(
+        &mut expected,
+        "{{\"error\":\"claim_limit\",\"held\":500,\"pid\":1}}"
+    )?;
+    prints(&rt, alloc, &lines, &expected)
+}
+
+/// Eight seats open their transactions side by side and end them in another order. Numbers are given at the begin, and a poll
+/// leaves out what is held; a rollback lets go, and loses its number.
+#[test]
+fn eight_seats_take_turns(rt: HostRuntime) -> Result<(), Fail> {
+    let alloc = rt.alloc();
+    let mut lines = String::new(alloc);
+    let mut expected = String::new(alloc);
+    for round in 0..8_u64 {
+        for seat in 0..8_u64 {
+            writeln!(&mut lines, "@{round} {seat} begin enqueue A q 0 - -")?;
+            writeln!(&mut expected, "open")?;
+        }
+        for turn in 0..8_u64 {
+            let seat = (3 * turn + round) % 8;
+            let id = 8 * round + seat + 1;
+            if seat == round {
+                writeln!(&mut lines, "{seat} rollback")?;
+                writeln!(&mut expected, "rolled back")?;
+            } else {
+                writeln!(&mut lines, "{seat} commit")?;
+                writeln!(&mut expected, "{{\"id\":{id},\"state\":\"ready\"}}")?;
+            }
+        }
+    }
+    writeln!(&mut lines, "@8 0 do register worker w")?;
+    writeln!(&mut expected, "{{\"pid\":1}}")?;
+    // of each eight numbers in turn the one of the seat that is the round's is missing
+    for round in 0..7_u64 {
+        for seat in 0..8_u64 {
+            writeln!(&mut lines, "@9 {seat} begin poll 1 1 *")?;
+            writeln!(&mut expected, "open")?;
+        }
+        for turn in 0..8_u64 {
+            let seat = (5 * turn + round) % 8;
+            let place = 8 * round + seat;
+            let (block, offset) = (place / 7, place % 7);
+            let id = 8 * block + offset + if offset < block { 1 } else { 2 };
+            writeln!(&mut lines, "{seat} commit")?;
+            writeln!(&mut expected, "{{\"ids\":[{id}]}}")?;
+            writeln!(&mut lines, "@10 {seat} do done 1 {id}")?;
+            writeln!(
+                &mut expected,
+                "{{\"id\":{id},\"state\":\"finished\",\"unblocked\":null}}"
+            )?;
+        }
+    }
+    prints(&rt, alloc, &lines, &expected)
+}
+
+#[test]
+fn a_bad_line_ends_a_trace(rt: HostRuntime) -> Result<(), Fail> {
+    let alloc = rt.alloc();
+    for (lines, printed) in [
+        (
+            "0 commit\n0  commit\n0 commit\n",
+            "{\"error\":\"seat_empty\"}\n{\"at\":9,\"error\":\"bad_line\"}\n",
+        ),
+        ("0 commit", "{\"at\":0,\"error\":\"bad_line\"}\n"),
+    ] {
+        let mut disk = disk_of(alloc, Vec::new(alloc), 0)?;
+        let mut sink = MemSink::new(alloc, Vec::new(alloc));
+        let status = command(alloc, "trace", RULES, lines, &mut sink, &mut disk)?;
+        assert_eq!(rt; sink.bytes(), printed.as_bytes());
+        assert_eq!(rt; status, 1);
+    }
     Ok(())
 }
