@@ -1,9 +1,10 @@
+use crate::tables::{row, same};
 use job_envelope::{Envelope, EnvelopeFault};
 use job_states::{Arg, NewJob};
 use serde_json::Value;
 use std::alloc::{AllocError, Global};
 use std::fmt::Write;
-use std::test::Fail;
+use std::process::Abort;
 
 /// The fault, or class, id, queue, priority, executions, counts, moment and arguments.
 fn shown(alloc: Global, outcome: &Result<NewJob, EnvelopeFault>) -> Result<String, AllocError> {
@@ -66,29 +67,32 @@ const BODIES: &str =
 {"job_class":"A","job_id":"1","scheduled_at":"2026-03-06T24:00:00Z"} => scheduled_at is no instant from 1970 to 9998
 {"job_class":"A","job_id":"1","scheduled_at":"2026-03-06T00:00:00.0000000001Z"} => scheduled_at is no instant from 1970 to 9998"#;
 
-#[test]
-fn envelopes_are_read_by_the_table(rt: HostRuntime) -> Result<(), Fail> {
-    for line in BODIES.lines() {
-        let (body, expected) = line.split_once(" => ").ok_or("no row")?;
-        let outcome = Envelope::read(rt.alloc(), body.as_bytes());
-        assert_eq!(rt; shown(rt.alloc(), &outcome)?.as_str(), expected);
-    }
-    Ok(())
+/// What is read of a body.
+fn expect(rt: &impl Abort, alloc: Global, body: &str, expected: &str) {
+    let outcome = Envelope::read(alloc, body.as_bytes());
+    let found = shown(alloc, &outcome).expect(rt, "memory");
+    same(rt, found.as_str(), expected, expected);
 }
 
 #[test]
-fn an_envelope_has_at_most_8192_bytes(rt: HostRuntime) -> Result<(), Fail> {
-    let mut body = String::from_str(rt.alloc(), r#"{"job_class":"A","job_id":"1"}"#)?;
-    for _ in 0..8162 {
-        body.push(' ')?;
+fn envelopes_are_read_by_the_table(rt: HostRuntime) {
+    for line in BODIES.lines() {
+        let (body, expected) = row(&rt, line);
+        expect(&rt, rt.alloc(), body, expected);
     }
-    let longest = Envelope::read(rt.alloc(), body.as_bytes());
-    assert_eq!(rt; shown(rt.alloc(), &longest)?.as_str(), "A 1 default 0 0");
-    body.push(' ')?;
-    let longer = Envelope::read(rt.alloc(), body.as_bytes());
-    let expected = "8193 bytes are too many for an envelope";
-    assert_eq!(rt; shown(rt.alloc(), &longer)?.as_str(), expected);
-    Ok(())
+}
+
+#[test]
+fn an_envelope_has_at_most_8192_bytes(rt: HostRuntime) {
+    let alloc = rt.alloc();
+    let blanks = " ".repeat(alloc, 8162).expect(&rt, "memory");
+    let body = format!(in alloc; r#"{{"job_class":"A","job_id":"1"}}{blanks}"#).expect(
+        &rt, "memory",
+    );
+    expect(&rt, alloc, body.as_str(), "A 1 default 0 0");
+    let longer = format!(in alloc; " {body}").expect(&rt, "memory");
+    let refused = "8193 bytes are too many for an envelope";
+    expect(&rt, alloc, longer.as_str(), refused);
 }
 
 /// What is written for the job of the body below, with other arguments.
@@ -96,17 +100,20 @@ const WRITTEN: &str =
     r#"{"arguments":["x",{"_aj_globalid":"gid://app/User/1"}],"enqueued_at":null,"exception_executions":{"[B]":3},"executions":2,"job_class":"A","job_id":"1","locale":null,"priority":-1,"provider_job_id":null,"queue_name":"low","scheduled_at":"2026-03-06T00:00:00.000001Z","timezone":null}"#;
 
 #[test]
-fn an_envelope_is_written_and_read_as_a_value(rt: HostRuntime) -> Result<(), Fail> {
+fn an_envelope_is_written_and_read_as_a_value(rt: HostRuntime) {
+    let alloc = rt.alloc();
     let body =
         br#"{"job_class":"A","job_id":"1","queue_name":"low","priority":-1,"executions":2,"exception_executions":{"[B]":3},"scheduled_at":"2026-03-06T00:00:00.000001Z"}"#;
-    let job = Envelope::read(rt.alloc(), body)?;
-    let args = Value::from_str(rt.alloc(), r#"["x", {"_aj_globalid": "gid://app/User/1"}]"#)?;
-    let text = Envelope::write(rt.alloc(), &job, &args)?;
+    let job = Envelope::read(alloc, body).expect(&rt, "a job");
+    let args = Value::from_str(alloc, r#"["x", {"_aj_globalid": "gid://app/User/1"}]"#).expect(
+        &rt, "a value",
+    );
+    let text = Envelope::write(alloc, &job, &args).expect(&rt, "an envelope");
     assert_eq!(rt; text.as_slice(), WRITTEN.as_bytes());
 
-    let value = Value::from_slice(rt.alloc(), text.as_slice())?;
-    let again = Envelope::read_value(rt.alloc(), &value);
+    let value = Value::from_slice(alloc, text.as_slice()).expect(&rt, "a value");
+    let again = Envelope::read_value(alloc, &value);
+    let found = shown(alloc, &again).expect(&rt, "memory");
     let expected = "A 1 low -1 2 [B]=3 @1772755200000001 'x' other";
-    assert_eq!(rt; shown(rt.alloc(), &again)?.as_str(), expected);
-    Ok(())
+    same(&rt, found.as_str(), expected, expected);
 }

@@ -15,6 +15,8 @@ mod schedules;
 #[cfg(test)]
 mod settings;
 #[cfg(test)]
+mod tables;
+#[cfg(test)]
 mod wire;
 #[cfg(test)]
 mod written;

@@ -1,9 +1,10 @@
+use crate::tables::{row, same};
 use http::Method;
 use http_wire::Request;
 use job_states::{Bytes, Command, Text};
 use queue_routes::{Ask, BodyFault, ask_of};
 use std::alloc::{AllocError, Global};
-use std::test::Fail;
+use std::process::Abort;
 
 fn command_name(command: &Command) -> &'static str {
     match command {
@@ -43,15 +44,15 @@ fn shown(alloc: Global, ask: &Ask) -> Result<String, AllocError> {
 }
 
 /// The request of a method, a path and a body, with a blank between them.
-fn request_of(alloc: Global, text: &str) -> Result<Request, Fail> {
-    let (method, rest) = text.split_once(" ").ok_or("no method")?;
-    let (path, body) = rest.split_once(" ").ok_or("no path")?;
-    Ok(Request {
-        method: Method::from_bytes(alloc, method.as_bytes())?,
-        path: Text::read(alloc, path)?,
-        query: Text::read(alloc, "")?,
-        body: Bytes::read(alloc, body.as_bytes())?,
-    })
+fn request_of(rt: &impl Abort, alloc: Global, text: &str) -> Request {
+    let (method, rest) = text.split_once(" ").expect(rt, text);
+    let (path, body) = rest.split_once(" ").expect(rt, text);
+    Request {
+        method: Method::from_bytes(alloc, method.as_bytes()).expect(rt, text),
+        path: Text::read(alloc, path).expect(rt, "memory"),
+        query: Text::read(alloc, "").expect(rt, "memory"),
+        body: Bytes::read(alloc, body.as_bytes()).expect(rt, "memory"),
+    }
 }
 
 /// A request, and after ` => ` what it asks for.
@@ -105,13 +106,17 @@ POST /upkeep/prune  => prune
 POST /upkeep/clear  => clear
 POST /upkeep/all  => not built"#;
 
+fn asked(rt: &impl Abort, alloc: Global, text: &str) -> String {
+    let request = request_of(rt, alloc, text);
+    let ask = ask_of(alloc, &request).expect(rt, "memory");
+    shown(alloc, &ask).expect(rt, "memory")
+}
+
 #[test]
-fn requests_ask_by_the_table(rt: HostRuntime) -> Result<(), Fail> {
-    let alloc = rt.alloc();
-    for row in REQUESTS.lines() {
-        let (request, expected) = row.split_once(" => ").ok_or("no arrow")?;
-        let ask = ask_of(alloc, &request_of(alloc, request)?)?;
-        assert_eq!(rt; shown(alloc, &ask)?.as_str(), expected);
+fn requests_ask_by_the_table(rt: HostRuntime) {
+    for line in REQUESTS.lines() {
+        let (request, expected) = row(&rt, line);
+        let found = asked(&rt, rt.alloc(), request);
+        same(&rt, found.as_str(), expected, request);
     }
-    Ok(())
 }

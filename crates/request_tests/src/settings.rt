@@ -1,11 +1,11 @@
 ghost use Rattle.queue_config.specs.Ranges.{IsConfig};
 
+use crate::tables::{row, same};
 use job_states::{Arg, Counted, Name, Text};
 use queue_config::{Act, Config, KeyFault, SettingsFault};
 use std::alloc::{AllocError, Global};
 use std::process::Abort;
 use std::slice;
-use std::test::Fail;
 
 /// What comes of settings.
 fn outcome(alloc: Global, text: &[u8]) -> Result<String, AllocError> {
@@ -16,10 +16,9 @@ fn outcome(alloc: Global, text: &[u8]) -> Result<String, AllocError> {
     }
 }
 
-fn expect(rt: &impl Abort, alloc: Global, text: &[u8], expected: &str) -> Result<(), AllocError> {
-    let found = outcome(alloc, text)?;
-    assert_eq!(rt; found.as_str(), expected);
-    Ok(())
+fn expect(rt: &impl Abort, alloc: Global, text: &[u8], expected: &str) {
+    let found = outcome(alloc, text).expect(rt, "memory");
+    same(rt, found.as_str(), expected, expected);
 }
 
 /// Settings with ` / ` for the ends of their lines and `~` for 64 letters, ` => `, and what comes of them.
@@ -226,40 +225,40 @@ classes = [{ name = "A", limit = { key = "k", group = "G" } }, { name = "B", lim
 classes = [{ name = "A", limit = { key = "k" } }, { name = "C" }, { name = "B", limit = { key = "l", group = "A", duration = 181 } }, { name = "D", limit = { key = "l", group = "A", to = 2 } }] => 9 classes[2].limit
 classes = [{ name = "A", limit = { key = "k", group = "G" } }, { name = "B", limit = { key_argument = 0, group = "G", on_conflict = "discard" } }, { name = "G", limit = { key = "k", group = "H", to = 2 } }] => accepted"#;
 
-/// A row of the table.
-fn expect_row(rt: &impl Abort, alloc: Global, row: &str, letters: &str) -> Result<(), Fail> {
-    let (settings, expected) = row.split_once(" => ").ok_or("no arrow")?;
-    let lines = settings.replace(alloc, " / ", "\n")?;
-    let text = lines.replace(alloc, "~", letters)?;
-    Ok(expect(rt, alloc, text.as_bytes(), expected)?)
-}
-
 /// Some of a table, and one more.
-fn expect_most(rt: &impl Abort, alloc: Global, table: &str, missing: &str) -> Result<(), Fail> {
-    let most = table.repeat(alloc, 1024)?;
-    expect(rt, alloc, most.as_bytes(), missing)?;
-    let more = table.repeat(alloc, 1025)?;
-    let found = outcome(alloc, more.as_bytes())?;
+fn expect_most(rt: &impl Abort, alloc: Global, table: &str, missing: &str) {
+    let most = table.repeat(alloc, 1024).expect(rt, "memory");
+    expect(rt, alloc, most.as_bytes(), missing);
+    let more = table.repeat(alloc, 1025).expect(rt, "memory");
+    let found = outcome(alloc, more.as_bytes()).expect(rt, "memory");
     assert!(rt; found.as_str().starts_with("5 "));
-    Ok(())
 }
 
 #[test]
-fn settings_are_accepted_or_refused_by_their_tables(rt: HostRuntime) -> Result<(), Fail> {
+fn settings_are_accepted_or_refused_by_their_tables(rt: HostRuntime) {
     let alloc = rt.alloc();
-    let letters = "x".repeat(alloc, 64)?;
-    for row in SETTINGS.lines() {
-        expect_row(&rt, alloc, row, letters.as_str())?;
+    let letters = "x".repeat(alloc, 64).expect(&rt, "memory");
+    for line in SETTINGS.lines() {
+        let (settings, expected) = row(&rt, line);
+        let lines = settings.replace(alloc, " / ", "\n").expect(&rt, "memory");
+        let text = lines
+            .replace(alloc, "~", letters.as_str())
+            .expect(&rt, "memory");
+        expect(&rt, alloc, text.as_bytes(), expected);
     }
-    let blank = "\n".repeat(alloc, Config::MAX_LEN)?;
-    expect(&rt, alloc, blank.as_bytes(), "accepted")?;
-    let longer = "=".repeat(alloc, Config::MAX_LEN + 1)?;
-    expect(&rt, alloc, longer.as_bytes(), "10 length")?;
-    expect(&rt, alloc, b"\xff", "1 document")?;
-    expect_most(&rt, alloc, "[[classes]]\n", "3 classes[0].name")?;
-    expect_most(&rt, alloc, "[[errors]]\n", "3 errors[0].name")?;
-    expect_most(&rt, alloc, "[[tasks]]\n", "3 tasks[0].key")?;
-    Ok(())
+    expect(&rt, alloc, b"\xff", "1 document");
+    expect_most(&rt, alloc, "[[classes]]\n", "3 classes[0].name");
+    expect_most(&rt, alloc, "[[errors]]\n", "3 errors[0].name");
+    expect_most(&rt, alloc, "[[tasks]]\n", "3 tasks[0].key");
+}
+
+#[test]
+fn settings_have_at_most_1048576_bytes(rt: HostRuntime) {
+    let alloc = rt.alloc();
+    let blank = "\n".repeat(alloc, 1_048_576).expect(&rt, "memory");
+    expect(&rt, alloc, blank.as_bytes(), "accepted");
+    let longer = "=".repeat(alloc, 1_048_577).expect(&rt, "memory");
+    expect(&rt, alloc, longer.as_bytes(), "10 length");
 }
 
 const RULES: &[u8] = br#"
@@ -315,32 +314,39 @@ T Other;[IoError, Other] 65535 => 0 65535 3000000
 T IoError;[IoError, Other] 65533 => 0 65534 3000000
 T StandardError;[Timeout] 0 => 99 0 fail";
 
-/// A row of the table, before the arrow.
-fn decided_row(alloc: Global, config: &Config, row: &str) -> Result<String, Fail>
+fn name(rt: &impl Abort, alloc: Global, text: &str) -> Name {
+    Name::read(alloc, text).expect(rt, text)
+}
+
+fn text(rt: &impl Abort, alloc: Global, text: &str) -> Text {
+    Text::read(alloc, text).expect(rt, "memory")
+}
+
+/// The decision of a row, before the arrow.
+fn decided_row(rt: &impl Abort, alloc: Global, config: &Config, row: &str) -> String
     requires { IsConfig config.now }
 {
-    let (names, kept) = row.split_once(";").ok_or("no semicolon")?;
-    let (class, error) = names.split_once(" ").ok_or("no error")?;
-    let (list, count) = kept.rsplit_once(" ").ok_or("no count")?;
+    let (names, kept) = row.split_once(";").expect(rt, row);
+    let (class, error) = names.split_once(" ").expect(rt, row);
+    let (list, count) = kept.rsplit_once(" ").expect(rt, row);
     let counted = Counted {
-        list: Text::read(alloc, list)?,
-        count: count.parse::<u32>().map_err(|_| "no number")?,
+        list: text(rt, alloc, list),
+        count: count.parse::<u32>().expect(rt, row),
     };
-    let class = Name::read(alloc, class)?;
-    let error = Name::read(alloc, error)?;
-    Ok(decided(alloc, config, &class, &error, &counted)?)
+    let class = name(rt, alloc, class);
+    let error = name(rt, alloc, error);
+    decided(alloc, config, &class, &error, &counted).expect(rt, "memory")
 }
 
 #[test]
-fn errors_are_decided_by_the_last_rule_that_fits(rt: HostRuntime) -> Result<(), Fail> {
+fn errors_are_decided_by_the_last_rule_that_fits(rt: HostRuntime) {
     let alloc = rt.alloc();
-    let config = Config::read(alloc, RULES)?;
-    for row in DECISIONS.lines() {
-        let (question, expected) = row.split_once(" => ").ok_or("no arrow")?;
-        let found = decided_row(alloc, &config, question)?;
-        assert_eq!(rt; found.as_str(), expected, "{question}");
+    let config = Config::read(alloc, RULES).expect(&rt, "settings");
+    for line in DECISIONS.lines() {
+        let (question, expected) = row(&rt, line);
+        let found = decided_row(&rt, alloc, &config, question);
+        same(&rt, found.as_str(), expected, question);
     }
-    Ok(())
 }
 
 const LIMITS: &[u8] = br#"
@@ -353,33 +359,26 @@ classes = [
 "#;
 
 /// The limit on a job with this argument as a text.
-fn limited(alloc: Global, config: &Config, class: &str, arg: &Arg) -> Result<String, Fail>
+fn limited(alloc: Global, config: &Config, class: &Name, arg: &Arg) -> Result<String, AllocError>
     requires { IsConfig config.now }
 {
-    let class = Name::read(alloc, class)?;
-    match config.limited(alloc, &class, slice::from_ref(arg)) {
-        Ok(None) => Ok("none".to_string(alloc)?),
+    match config.limited(alloc, class, slice::from_ref(arg)) {
+        Ok(None) => "none".to_string(alloc),
         Ok(Some(limited)) => {
             let (to, duration, discard) = (limited.to, limited.duration, limited.discard);
             let key = limited.key.as_str();
-            Ok(format!(in alloc; "{key} {to} {duration} {discard}")?)
+            format!(in alloc; "{key} {to} {duration} {discard}")
         }
-        Err(KeyFault::Refused) => Ok("refused".to_string(alloc)?),
-        Err(KeyFault::NoMemory) => Ok("no memory".to_string(alloc)?),
+        Err(KeyFault::Refused) => "refused".to_string(alloc),
+        Err(KeyFault::NoMemory) => "no memory".to_string(alloc),
     }
 }
 
-fn expect_key(
-    rt: &impl Abort,
-    alloc: Global,
-    class: &str,
-    arg: &Arg,
-    expected: &str,
-) -> Result<(), Fail> {
-    let config = Config::read(alloc, LIMITS)?;
-    let found = limited(alloc, &config, class, arg)?;
-    assert_eq!(rt; found.as_str(), expected, "{class}");
-    Ok(())
+fn expect_key(rt: &impl Abort, alloc: Global, class: &str, arg: &Arg, expected: &str) {
+    let config = Config::read(alloc, LIMITS).expect(rt, "settings");
+    let name = name(rt, alloc, class);
+    let found = limited(alloc, &config, &name, arg).expect(rt, "memory");
+    same(rt, found.as_str(), expected, class);
 }
 
 /// Texts as the argument of a job of class B; `~` stands for 128 letters.
@@ -389,41 +388,36 @@ const TEXTS: &str = "x => B/x 1 180000000 false
  => refused";
 
 #[test]
-fn keys_come_from_the_settings_or_an_argument(rt: HostRuntime) -> Result<(), Fail> {
+fn keys_come_from_texts(rt: HostRuntime) {
     let alloc = rt.alloc();
-    let letters = "x".repeat(alloc, 128)?;
-    for row in TEXTS.lines() {
-        let row = row.replace(alloc, "~", letters.as_str())?;
-        let (text, expected) = row.as_str().split_once(" => ").ok_or("no arrow")?;
-        expect_key(
-            &rt,
-            alloc,
-            "B",
-            &Arg::Text(Text::read(alloc, text)?),
-            expected,
-        )?;
+    let letters = "x".repeat(alloc, 128).expect(&rt, "memory");
+    for line in TEXTS.lines() {
+        let line = line
+            .replace(alloc, "~", letters.as_str())
+            .expect(&rt, "memory");
+        let (words, expected) = row(&rt, line.as_str());
+        let arg = Arg::Text(text(&rt, alloc, words));
+        expect_key(&rt, alloc, "B", &arg, expected);
     }
-    let least = Arg::Whole(-9_223_372_036_854_775_808);
-    expect_key(
-        &rt,
-        alloc,
-        "B",
-        &least,
-        "B/-9223372036854775808 1 180000000 false",
-    )?;
-    let most = Arg::Whole(18_446_744_073_709_551_615);
-    expect_key(
-        &rt,
-        alloc,
-        "B",
-        &most,
-        "B/18446744073709551615 1 180000000 false",
-    )?;
-    expect_key(&rt, alloc, "B", &Arg::Null, "none")?;
-    expect_key(&rt, alloc, "B", &Arg::Other, "refused")?;
-    expect_key(&rt, alloc, "A", &Arg::Other, "none")?;
-    expect_key(&rt, alloc, "Z", &Arg::Other, "none")?;
-    expect_key(&rt, alloc, "C", &Arg::Other, "G/k 2 1000000 true")?;
-    expect_key(&rt, alloc, "D", &Arg::Other, "none")?;
-    Ok(())
+}
+
+/// Classes, whole numbers as arguments, and keys.
+const NUMBERS: &str = "B -9223372036854775808 => B/-9223372036854775808 1 180000000 false
+B 18446744073709551615 => B/18446744073709551615 1 180000000 false
+A 1 => none
+Z 1 => none
+C 1 => G/k 2 1000000 true
+D 1 => none";
+
+#[test]
+fn keys_come_from_whole_numbers_and_the_settings(rt: HostRuntime) {
+    for line in NUMBERS.lines() {
+        let (question, expected) = row(&rt, line);
+        let (class, number) = question.split_once(" ").expect(&rt, line);
+        let arg = Arg::Whole(number.parse::<i128>().expect(&rt, number));
+        expect_key(&rt, rt.alloc(), class, &arg, expected);
+    }
+    expect_key(&rt, rt.alloc(), "B", &Arg::Null, "none");
+    expect_key(&rt, rt.alloc(), "B", &Arg::Other, "refused");
+    expect_key(&rt, rt.alloc(), "C", &Arg::Other, "G/k 2 1000000 true");
 }

@@ -1,7 +1,8 @@
-use http_wire::{Carry, WireFault, read_request};
+use crate::tables::{row, same};
+use http_wire::{Carry, Request, WireFault, read_request};
 use sq_outside::{MemSource, Source, SureSource, Trickle};
 use std::alloc::Global;
-use std::test::Fail;
+use std::process::Abort;
 
 const GET: &[u8] = b"GET / HTTP/1.1\r\n\r\n";
 
@@ -10,258 +11,232 @@ const POST: &[u8] =
 
 const LISTED_POST: &str = "POST [/jobs] [] [{\"job_class\":\"A\",\"job_id\":\"j1\"}], ";
 
+fn list_request(rt: &impl Abort, alloc: Global, listed: &mut String, request: &Request) {
+    let (method, path) = (request.method.as_str(), request.path.as_str());
+    let query = request.query.as_str();
+    let body = String::from_utf8_lossy(alloc, request.body.as_slice()).expect(rt, "memory");
+    write!(listed, "{method} [{path}] [{query}] [{body}], ").expect(rt, "memory");
+}
+
 // The requests of a stream and how it ends, as text.
-fn listed<S: Source>(alloc: Global, source: &mut S) -> Result<String, Fail> {
+fn listed<S: Source>(rt: &impl Abort, alloc: Global, source: &mut S) -> String {
     let mut carry = Carry::new(alloc);
     let mut listed = String::new(alloc);
     for _ in 0..9 {
         match read_request(alloc, source, &mut carry) {
-            Ok(Some(request)) => {
-                let (method, path) = (request.method.as_str(), request.path.as_str());
-                let query = request.query.as_str();
-                let body = String::from_utf8_lossy(alloc, request.body.as_slice())?;
-                write!(listed, "{method} [{path}] [{query}] [{body}], ")?;
-            }
+            Ok(Some(request)) => list_request(rt, alloc, &mut listed, &request),
             Ok(None) => {
-                listed.push_str("end")?;
+                listed.push_str("end").expect(rt, "memory");
                 break;
             }
             Err(fault) => {
-                write!(listed, "{fault:?}")?;
+                write!(listed, "{fault:?}").expect(rt, "memory");
                 break;
             }
         }
     }
-    Ok(listed)
+    listed
 }
 
-fn listed_of(alloc: Global, bytes: &[u8]) -> Result<String, Fail> {
-    listed(alloc, &mut SureSource::new(Vec::from_slice(alloc, bytes)?))
+fn expect(rt: &impl Abort, alloc: Global, stream: &[u8], expected: &str) {
+    let bytes = Vec::from_slice(alloc, stream).expect(rt, "memory");
+    let found = listed(rt, alloc, &mut SureSource::new(bytes));
+    same(rt, found.as_str(), expected, expected);
 }
 
 // A head that has no end yet, of this length.
-fn open_head(alloc: Global, len: usize) -> Result<Vec<u8>, Fail> {
-    let mut head = Vec::from_slice(alloc, b"GET / HTTP/1.1\r\nA: ")?;
-    head.resize(len, b'x')?;
-    Ok(head)
+fn open_head(rt: &impl Abort, alloc: Global, len: usize) -> Vec<u8> {
+    let mut head = Vec::from_slice(alloc, b"GET / HTTP/1.1\r\nA: ").expect(rt, "memory");
+    head.resize(len, b'x').expect(rt, "memory");
+    head
 }
 
-fn joined(alloc: Global, first: &[u8], second: &[u8]) -> Result<Vec<u8>, Fail> {
-    let mut whole = Vec::from_slice(alloc, first)?;
-    whole.extend_from_slice(second)?;
-    Ok(whole)
+fn joined(rt: &impl Abort, alloc: Global, first: &[u8], second: &[u8]) -> Vec<u8> {
+    let mut whole = Vec::from_slice(alloc, first).expect(rt, "memory");
+    whole.extend_from_slice(second).expect(rt, "memory");
+    whole
 }
 
-fn head_of_fields(alloc: Global, count: usize) -> Result<Vec<u8>, Fail> {
-    let mut head = Vec::from_slice(alloc, b"GET / HTTP/1.1\r\n")?;
-    for _ in 0..count {
-        head.extend_from_slice(b"A: b\r\n")?;
-    }
-    head.extend_from_slice(b"\r\n")?;
-    Ok(head)
+fn head_of_fields(rt: &impl Abort, alloc: Global, count: usize) -> Vec<u8> {
+    let fields = "A: b\r\n".repeat(alloc, count).expect(rt, "memory");
+    let open = joined(rt, alloc, b"GET / HTTP/1.1\r\n", fields.as_bytes());
+    joined(rt, alloc, &open, b"\r\n")
 }
+
+/// The bytes of a text in which `|` stands for a carriage return and a line feed, `^` for the one and `~` for the other.
+fn stream_of(rt: &impl Abort, alloc: Global, text: &str) -> String {
+    let text = text.replace(alloc, "|", "^~").expect(rt, "memory");
+    let text = text.replace(alloc, "^", "\r").expect(rt, "memory");
+    text.replace(alloc, "~", "\n").expect(rt, "memory")
+}
+
+/// Streams, and their requests and ends.
+const STREAMS: &str = " => end
+GET / HTTP/1.1|| => GET [/] [] [], end
+GET / HTTP/1.0|| => GET [/] [] [], end
+GET / HTTP/1.2|| => BadRequest { at: 0 }
+GET /jobs?queue=a?b HTTP/1.1|| => GET [/jobs] [queue=a?b] [], end
+GET * HTTP/1.1|| => BadRequest { at: 0 }
+GET * HTTP/1.1|Transfer-Encoding: chunked|| => BadRequest { at: 0 }
+PUT / HTTP/1.1~content-length: 2~~abGET / HTTP/1.1~~ => PUT [/] [] [ab], GET [/] [] [], end
+PUT / HTTP/1.1|Content-Length: 0000000000000000002||ab => PUT [/] [] [ab], end
+PUT / HTTP/1.1|Content-Length: 00000000000000000002||ab => BadRequest { at: 0 }
+PUT / HTTP/1.1|Content-Length: +5||hello => BadRequest { at: 0 }
+PUT / HTTP/1.1|Content-Length:|| => BadRequest { at: 0 }
+PUT / HTTP/1.1|Content-Length: 0|content-length: 0|| => BadRequest { at: 0 }
+PUT / HTTP/1.1|Content-Length: 1048577|| => TooLarge { at: 0, len: 1048577 }
+PUT / HTTP/1.1|Content-Length: 9999999999999999999|| => TooLarge { at: 0, len: 9999999999999999999 }
+PUT / HTTP/1.1|Content-Length: +5|Transfer-Encoding: chunked|| => Unsupported { at: 0 }
+||GET /a HTTP/1.1||||GET * HTTP/1.1|| => GET [/a] [] [], BadRequest { at: 23 }
+GET / HTTP/1.1||^^ => GET [/] [] [], end
+^^ => end
+^GET / HTTP/1.1|| => BadRequest { at: 0 }";
 
 #[test]
-fn heads_are_read_or_refused_at_their_place(rt: HostRuntime) -> Result<(), Fail> {
+fn heads_are_read_or_refused_at_their_place(rt: HostRuntime) {
     let alloc = rt.alloc();
-    for (stream, expected) in [
-        (b"".as_slice(), "end"),
-        (GET, "GET [/] [] [], end"),
-        (b"GET / HTTP/1.0\r\n\r\n", "GET [/] [] [], end"),
-        (b"GET / HTTP/1.2\r\n\r\n", "BadRequest { at: 0 }"),
-        (
-            b"GET /jobs?queue=a?b HTTP/1.1\r\n\r\n",
-            "GET [/jobs] [queue=a?b] [], end",
-        ),
-        (b"GET * HTTP/1.1\r\n\r\n", "BadRequest { at: 0 }"),
-        (
-            b"GET * HTTP/1.1\r\nTransfer-Encoding: chunked\r\n\r\n",
-            "BadRequest { at: 0 }",
-        ),
-        (b"GET /\xff HTTP/1.1\r\n\r\n", "BadRequest { at: 0 }"),
-        (
-            b"PUT / HTTP/1.1\ncontent-length: 2\n\nabGET / HTTP/1.1\n\n",
-            "PUT [/] [] [ab], GET [/] [] [], end",
-        ),
-        (
-            b"PUT / HTTP/1.1\r\nContent-Length: 0000000000000000002\r\n\r\nab",
-            "PUT [/] [] [ab], end",
-        ),
-        (
-            b"PUT / HTTP/1.1\r\nContent-Length: 00000000000000000002\r\n\r\nab",
-            "BadRequest { at: 0 }",
-        ),
-        (
-            b"PUT / HTTP/1.1\r\nContent-Length: +5\r\n\r\nhello",
-            "BadRequest { at: 0 }",
-        ),
-        (
-            b"PUT / HTTP/1.1\r\nContent-Length:\r\n\r\n",
-            "BadRequest { at: 0 }",
-        ),
-        (
-            b"PUT / HTTP/1.1\r\nContent-Length: 0\r\ncontent-length: 0\r\n\r\n",
-            "BadRequest { at: 0 }",
-        ),
-        (
-            b"PUT / HTTP/1.1\r\nContent-Length: 1048577\r\n\r\n",
-            "TooLarge { at: 0, len: 1048577 }",
-        ),
-        (
-            b"PUT / HTTP/1.1\r\nContent-Length: 9999999999999999999\r\n\r\n",
-            "TooLarge { at: 0, len: 9999999999999999999 }",
-        ),
-        (
-            b"PUT / HTTP/1.1\r\nContent-Length: +5\r\nTransfer-Encoding: chunked\r\n\r\n",
-            "Unsupported { at: 0 }",
-        ),
-        (
-            b"\r\n\r\nGET /a HTTP/1.1\r\n\r\n\r\nGET * HTTP/1.1\r\n\r\n",
-            "GET [/a] [] [], BadRequest { at: 23 }",
-        ),
-        (b"GET / HTTP/1.1\r\n\r\n\r\r", "GET [/] [] [], end"),
-        (b"\r\r", "end"),
-        (b"\rGET / HTTP/1.1\r\n\r\n", "BadRequest { at: 0 }"),
-    ] {
-        let text = String::from_utf8_lossy(alloc, stream)?;
-        assert_eq!(rt; listed_of(alloc, stream)?.as_str(), expected, "{text:?}");
+    for line in STREAMS.lines() {
+        let (text, expected) = row(&rt, line);
+        expect(&rt, alloc, stream_of(&rt, alloc, text).as_bytes(), expected);
     }
-    Ok(())
+    expect(
+        &rt,
+        alloc,
+        b"GET /\xff HTTP/1.1\r\n\r\n",
+        "BadRequest { at: 0 }",
+    );
+}
+
+/// Line ends, and then a request or nothing.
+fn expect_after(rt: &impl Abort, alloc: Global, line_ends: &str, rest: &[u8], expected: &str) {
+    expect(
+        rt,
+        alloc,
+        &joined(rt, alloc, line_ends.as_bytes(), rest),
+        expected,
+    );
 }
 
 #[test]
-fn a_head_has_64_fields_and_16384_bytes_at_most(rt: HostRuntime) -> Result<(), Fail> {
+fn a_head_has_64_fields_and_16384_bytes_at_most(rt: HostRuntime) {
     let alloc = rt.alloc();
     let taken = "GET [/] [] [], end";
+    let refused = "BadRequest { at: 0 }";
+    let too_large = "TooLarge { at: 0, len: 16384 }";
+    expect(&rt, alloc, &head_of_fields(&rt, alloc, 64), taken);
+    expect(&rt, alloc, &head_of_fields(&rt, alloc, 65), refused);
+    expect(&rt, alloc, &open_head(&rt, alloc, 16_383), refused);
+    expect(&rt, alloc, &open_head(&rt, alloc, 16_384), too_large);
+    expect(&rt, alloc, &open_head(&rt, alloc, 16_385), too_large);
+    let most = open_head(&rt, alloc, 16_380);
+    expect(&rt, alloc, &joined(&rt, alloc, &most, b"\r\n\r\n"), taken);
+    let more = open_head(&rt, alloc, 16_381);
+    expect(
+        &rt,
+        alloc,
+        &joined(&rt, alloc, &more, b"\r\n\r\n"),
+        too_large,
+    );
+}
+
+#[test]
+fn line_ends_before_a_request_count_as_its_head(rt: HostRuntime) {
+    let alloc = rt.alloc();
     let too_large = "TooLarge { at: 0, len: 16384 }";
     // `GET` has 18 bytes.
-    let line_ends = "\r\n".repeat(alloc, 10_000)?;
-    let most_line_ends = "\r\n".repeat(alloc, 8183)?;
-    let too_many_line_ends = "\n".repeat(alloc, 16_367)?;
-    for (stream, expected) in [
-        (head_of_fields(alloc, 64)?, taken),
-        (head_of_fields(alloc, 65)?, "BadRequest { at: 0 }"),
-        (open_head(alloc, 16_383)?, "BadRequest { at: 0 }"),
-        (open_head(alloc, 16_384)?, too_large),
-        (open_head(alloc, 16_385)?, too_large),
-        (
-            joined(alloc, &open_head(alloc, 16_380)?, b"\r\n\r\n")?,
-            taken,
-        ),
-        (
-            joined(alloc, &open_head(alloc, 16_381)?, b"\r\n\r\n")?,
-            too_large,
-        ),
-        (joined(alloc, most_line_ends.as_bytes(), GET)?, taken),
-        (
-            joined(alloc, too_many_line_ends.as_bytes(), GET)?,
-            too_large,
-        ),
-        (joined(alloc, line_ends.as_bytes(), GET)?, too_large),
-        (joined(alloc, line_ends.as_bytes(), b"")?, "end"),
-    ] {
-        let len = stream.len();
-        assert_eq!(rt;
-            listed_of(alloc, &stream)?.as_str(),
-            expected,
-            "{len} bytes"
-        );
-    }
-    Ok(())
+    let most = "\r\n".repeat(alloc, 8183).expect(&rt, "memory");
+    expect_after(&rt, alloc, most.as_str(), GET, "GET [/] [] [], end");
+    let too_many = "\n".repeat(alloc, 16_367).expect(&rt, "memory");
+    expect_after(&rt, alloc, too_many.as_str(), GET, too_large);
+    let many = "\r\n".repeat(alloc, 10_000).expect(&rt, "memory");
+    expect_after(&rt, alloc, many.as_str(), GET, too_large);
+    expect_after(&rt, alloc, many.as_str(), b"", "end");
 }
 
 #[test]
-fn a_body_of_1048576_bytes_is_taken(rt: HostRuntime) -> Result<(), Fail> {
+fn a_body_of_1048576_bytes_is_taken(rt: HostRuntime) {
     let alloc = rt.alloc();
-    let mut stream = Vec::from_slice(alloc, b"PUT / HTTP/1.1\r\nContent-Length: 1048576\r\n\r\n")?;
-    let len = stream.len() + 1_048_576;
-    stream.resize(len, b'x')?;
-    stream.extend_from_slice(GET)?;
-    let mut source = SureSource::new(stream);
-    let mut carry = Carry::new(alloc);
-    let request = read_request(alloc, &mut source, &mut carry)?.ok_or("end")?;
-    assert_eq!(rt; request.body.len(), 1_048_576);
-    assert!(rt; request.body.as_slice().iter().all(|b| *b == b'x'));
-    let request = read_request(alloc, &mut source, &mut carry)?.ok_or("end")?;
-    assert!(rt; request.body.is_empty());
-    Ok(())
+    let body = "x".repeat(alloc, 1_048_576).expect(&rt, "memory");
+    let head = b"PUT / HTTP/1.1\r\nContent-Length: 1048576\r\n\r\n";
+    let stream = joined(&rt, alloc, head, body.as_bytes());
+    let stream = joined(&rt, alloc, &stream, GET);
+    let listed = format!(in alloc; "PUT [/] [] [{body}], GET [/] [] [], end").expect(&rt, "memory");
+    expect(&rt, alloc, &stream, listed.as_str());
 }
 
 #[test]
-fn a_request_that_is_cut_is_refused(rt: HostRuntime) -> Result<(), Fail> {
-    for len in 0..POST.len() {
-        let expected = if len == 0 {
-            "end"
-        } else {
-            "BadRequest { at: 0 }"
-        };
-        assert_eq!(rt;
-            listed_of(rt.alloc(), &POST[..len])?.as_str(),
-            expected,
-            "{len} bytes"
-        );
+fn a_request_that_is_cut_is_refused(rt: HostRuntime) {
+    expect(&rt, rt.alloc(), b"", "end");
+    for len in 1..POST.len() {
+        expect(&rt, rt.alloc(), &POST[..len], "BadRequest { at: 0 }");
     }
-    Ok(())
+}
+
+/// What may follow whole requests, and how the stream ends then.
+const ENDS: &str = " => end
+|| => end
+GET / HTTP/1.1| => BadRequest { at: 116 }
+|GET * HTTP/1.1|| => BadRequest { at: 116 }
+PUT / HTTP/1.1|Transfer-Encoding: chunked|| => Unsupported { at: 116 }
+PUT / HTTP/1.1|Content-Length: 1048577|| => TooLarge { at: 116, len: 1048577 }";
+
+/// Requests and what follows them, in one piece and in pieces of one byte.
+fn expect_in_pieces(rt: &impl Abort, alloc: Global, requests: &[u8], rest: &str, end: &str) {
+    let expected = format!(in alloc; "GET [/a] [] [], {LISTED_POST}GET [/b] [x] [], {end}").expect(
+        rt, "memory",
+    );
+    let stream = joined(rt, alloc, requests, rest.as_bytes());
+    expect(rt, alloc, &stream, expected.as_str());
+    let found = listed(rt, alloc, &mut Trickle::new(SureSource::new(stream), 1));
+    same(rt, found.as_str(), expected.as_str(), rest);
 }
 
 #[test]
-fn pieces_of_one_byte_are_read_as_one_piece_is(rt: HostRuntime) -> Result<(), Fail> {
+fn pieces_of_one_byte_are_read_as_one_piece_is(rt: HostRuntime) {
     let alloc = rt.alloc();
-    let requests = joined(alloc, b"GET /a HTTP/1.1\r\n\r\n", POST)?;
-    let requests = joined(alloc, &requests, b"\r\nGET /b?x HTTP/1.1\r\n\r\n")?;
+    let requests = joined(&rt, alloc, b"GET /a HTTP/1.1\r\n\r\n", POST);
+    let requests = joined(&rt, alloc, &requests, b"\r\nGET /b?x HTTP/1.1\r\n\r\n");
     assert_eq!(rt; requests.len(), 116);
-    for (rest, end) in [
-        (b"".as_slice(), "end"),
-        (b"\r\n\r\n", "end"),
-        (b"GET / HTTP/1.1\r\n", "BadRequest { at: 116 }"),
-        (b"\r\nGET * HTTP/1.1\r\n\r\n", "BadRequest { at: 116 }"),
-        (
-            b"PUT / HTTP/1.1\r\nTransfer-Encoding: chunked\r\n\r\n",
-            "Unsupported { at: 116 }",
-        ),
-        (
-            b"PUT / HTTP/1.1\r\nContent-Length: 1048577\r\n\r\n",
-            "TooLarge { at: 116, len: 1048577 }",
-        ),
-    ] {
-        let expected = format!(in alloc; "GET [/a] [] [], {LISTED_POST}GET [/b] [x] [], {end}")?;
-        let stream = joined(alloc, &requests, rest)?;
-        assert_eq!(rt; listed_of(alloc, &stream)?, expected);
-        assert_eq!(rt;
-            listed(alloc, &mut Trickle::new(SureSource::new(stream), 1))?,
-            expected
-        );
+    for line in ENDS.lines() {
+        let (rest, end) = row(&rt, line);
+        let rest = stream_of(&rt, alloc, rest);
+        expect_in_pieces(&rt, alloc, &requests, rest.as_str(), end);
     }
-    Ok(())
+}
+
+/// A stream whose read of this number fails, and what is given before that.
+fn expect_failing(rt: &impl Abort, alloc: Global, stream: &[u8], call: u64, given: &str) {
+    let bytes = Vec::from_slice(alloc, stream).expect(rt, "memory");
+    let calls = vec![in alloc; call].expect(rt, "memory");
+    let expected = format!(in alloc; "{given}{:?}", WireFault::ReadFault).expect(rt, "memory");
+    let found = listed(rt, alloc, &mut MemSource::new(bytes, calls));
+    same(rt, found.as_str(), expected.as_str(), given);
 }
 
 #[test]
-fn requests_before_a_read_that_fails_are_given(rt: HostRuntime) -> Result<(), Fail> {
+fn requests_before_a_read_that_fails_are_given(rt: HostRuntime) {
     let alloc = rt.alloc();
-    let long_body = open_head(alloc, 9000)?;
-    let long_body = joined(
-        alloc,
-        b"PUT / HTTP/1.1\r\nContent-Length: 9000\r\n\r\n",
-        &long_body,
-    )?;
-    let line_ends = "\r\n".repeat(alloc, 10_000)?;
-    let two = joined(alloc, GET, POST)?;
-    let listed_two = format!(in alloc; "GET [/] [] [], {LISTED_POST}")?;
-    for (stream, call, given) in [
-        (POST, 1, ""),
-        (POST, 2, LISTED_POST),
-        (&two, 2, &listed_two),
-        (&open_head(alloc, 9000)?, 2, ""),
-        (&long_body, 2, ""),
-        (line_ends.as_bytes(), 3, ""),
-    ] {
-        let mut source = MemSource::new(Vec::from_slice(alloc, stream)?, vec![in alloc; call]?);
-        let expected = format!(in alloc; "{given}{:?}", WireFault::ReadFault)?;
-        assert_eq!(rt; listed(alloc, &mut source)?, expected);
-    }
-    // A whole request isn't kept waiting for one more byte.
-    let source = MemSource::new(Vec::from_slice(alloc, GET)?, vec![in alloc; 19]?);
-    let expected = format!(in alloc; "GET [/] [] [], {:?}", WireFault::ReadFault)?;
-    assert_eq!(rt; listed(alloc, &mut Trickle::new(source, 1))?, expected);
-    Ok(())
+    expect_failing(&rt, alloc, POST, 1, "");
+    expect_failing(&rt, alloc, POST, 2, LISTED_POST);
+    let two = joined(&rt, alloc, GET, POST);
+    let listed_two = format!(in alloc; "GET [/] [] [], {LISTED_POST}").expect(&rt, "memory");
+    expect_failing(&rt, alloc, &two, 2, listed_two.as_str());
+    let open = open_head(&rt, alloc, 9000);
+    expect_failing(&rt, alloc, &open, 2, "");
+    let head = b"PUT / HTTP/1.1\r\nContent-Length: 9000\r\n\r\n";
+    expect_failing(&rt, alloc, &joined(&rt, alloc, head, &open), 2, "");
+    let line_ends = "\r\n".repeat(alloc, 10_000).expect(&rt, "memory");
+    expect_failing(&rt, alloc, line_ends.as_bytes(), 3, "");
+}
+
+#[test]
+fn a_whole_request_is_not_kept_waiting_for_one_more_byte(rt: HostRuntime) {
+    let alloc = rt.alloc();
+    let bytes = Vec::from_slice(alloc, GET).expect(&rt, "memory");
+    let source = MemSource::new(bytes, vec![in alloc; 19].expect(&rt, "memory"));
+    let expected = format!(in alloc; "GET [/] [] [], {:?}", WireFault::ReadFault).expect(
+        &rt, "memory",
+    );
+    let found = listed(&rt, alloc, &mut Trickle::new(source, 1));
+    same(&rt, found.as_str(), expected.as_str(), "pieces of one byte");
 }
