@@ -7,15 +7,14 @@ use job_states::Bytes;
 use journal_keeper::{Journal, OpenFault};
 use sq_outside::{Disk, MemDisk};
 use std::alloc::Global;
-use std::test::Fail;
-
-const NEW: [u8; 17] = *b"SQJRNAL\n\0\0\0\x01\0\0\0\0\0";
-
-/// What the journal holds after so many of its three payloads.
-const HELD: [&str; 4] = ["", "a;", "a;bcd;", "a;bcd;efghijklmnop;"];
+use std::process::Abort;
 
 /// The journal of a disk, and its payloads, each before a semicolon.
-fn read_all<D: Disk>(alloc: Global, disk: &mut D) -> Result<(Journal, Vec<u8>), OpenFault>
+fn read_all<D: Disk>(
+    rt: &impl Abort,
+    alloc: Global,
+    disk: &mut D,
+) -> Result<(Journal, Vec<u8>), OpenFault>
     ensures { IfOk result (λ r. (is_read r.0.stage ≡ true) × IsStanding r.0 (D.history disk.new)) }
 {
     let mut journal = Journal::open(alloc, disk)?;
@@ -23,8 +22,10 @@ fn read_all<D: Disk>(alloc: Global, disk: &mut D) -> Result<(Journal, Vec<u8>), 
     for _ in 0..8 {
         match journal.next_record(disk)? {
             Some(payload) => {
-                payloads.extend_from_slice(payload.as_slice())?;
-                payloads.push(b';')?;
+                payloads
+                    .extend_from_slice(payload.as_slice())
+                    .expect(rt, "memory");
+                payloads.push(b';').expect(rt, "memory");
             }
             None => return Ok((journal, payloads)),
         }
@@ -33,197 +34,194 @@ fn read_all<D: Disk>(alloc: Global, disk: &mut D) -> Result<(Journal, Vec<u8>), 
 }
 
 /// What stands after the gate of a record.
-fn record(alloc: Global, payload: &[u8]) -> Result<Bytes, Fail>
+fn record(rt: &impl Abort, alloc: Global, payload: &[u8]) -> Bytes
     requires some { 0 < length payload.now }
     requires short { length payload.now < 256 }
-    ensures { IfOk result (λ bytes. IsRecord bytes) }
+    ensures { IsRecord result }
 {
-    let mut bytes = Vec::from_slice(alloc, &[0, 0, 0, payload.len() as u8])?;
-    bytes.extend_from_slice(payload)?;
-    bytes.push(0)?;
-    Ok(Bytes::of(bytes))
+    let len = [0, 0, 0, payload.len() as u8];
+    let mut bytes = Vec::from_slice(alloc, &len).expect(rt, "memory");
+    bytes.extend_from_slice(payload).expect(rt, "memory");
+    bytes.push(0).expect(rt, "memory");
+    Bytes::of(bytes)
+}
+
+/// Is the payload acknowledged?
+fn appends<D: Disk>(
+    rt: &impl Abort,
+    alloc: Global,
+    disk: &mut D,
+    journal: &mut Journal,
+    payload: &[u8],
+) -> bool
+    requires some { 0 < length payload.now }
+    requires short { length payload.now < 256 }
+    requires read { is_read journal.old.stage ≡ true }
+    requires standing { IsStanding journal.old (D.history disk.old) }
+    ensures read { is_read journal.new.stage ≡ true }
+    ensures standing { IsStanding journal.new (D.history disk.new) }
+{
+    let record = record(rt, alloc, payload);
+    journal.append(disk, &record).is_ok()
 }
 
 /// Appends three payloads up to the first failure. How many were acknowledged?
-fn append_three<D: Disk>(alloc: Global, disk: &mut D, journal: &mut Journal) -> Result<usize, Fail>
+fn append_three<D: Disk>(
+    rt: &impl Abort,
+    alloc: Global,
+    disk: &mut D,
+    journal: &mut Journal,
+) -> usize
     requires read { is_read journal.old.stage ≡ true }
     requires standing { IsStanding journal.old (D.history disk.old) }
-    ensures read { IfOk result (λ _. is_read journal.new.stage ≡ true) }
-    ensures standing { IfOk result (λ _. IsStanding journal.new (D.history disk.new)) }
+    ensures read { is_read journal.new.stage ≡ true }
+    ensures standing { IsStanding journal.new (D.history disk.new) }
 {
-    let first = record(alloc, b"a")?;
-    let second = record(alloc, b"bcd")?;
-    let third = record(alloc, b"efghijklmnop")?;
-    if journal.append(disk, &first).is_err() {
-        return Ok(0);
+    if !appends(rt, alloc, disk, journal, b"a") {
+        return 0;
     }
-    if journal.append(disk, &second).is_err() {
-        return Ok(1);
+    if !appends(rt, alloc, disk, journal, b"bcd") {
+        return 1;
     }
-    if journal.append(disk, &third).is_err() {
-        return Ok(2);
+    if !appends(rt, alloc, disk, journal, b"efghijklmnop") {
+        return 2;
     }
-    Ok(3)
+    3
 }
 
-fn disk_of(alloc: Global, bytes: &[u8], fail: Vec<(u64, u32)>) -> Result<MemDisk, Fail> {
-    let files = [Vec::from_slice(alloc, bytes)?, Vec::new(alloc)];
-    Ok(MemDisk::new(alloc, files, fail)?)
+fn disk_of(rt: &impl Abort, alloc: Global, bytes: &[u8], fail: Vec<(u64, u32)>) -> MemDisk {
+    let file = Vec::from_slice(alloc, bytes).expect(rt, "memory");
+    MemDisk::new(alloc, [file, Vec::new(alloc)], fail).expect(rt, "memory")
 }
 
-/// Does the disk hold the first `n` payloads, or one more?
-fn holds(alloc: Global, disk: &mut MemDisk, n: usize) -> Result<bool, Fail> {
-    let (_journal, payloads) = read_all(alloc, disk).ok().ok_or("opened")?;
-    let held = payloads.as_slice();
-    Ok(
-        HELD.get(n).is_some_and(|text| held == text.as_bytes())
-            || HELD
-                .get(n.saturating_add(1))
-                .is_some_and(|text| held == text.as_bytes()),
-    )
+fn disk_failing(rt: &impl Abort, alloc: Global, bytes: &[u8], call: u64, kept: u32) -> MemDisk {
+    let fail = vec![in alloc; (call, kept)].expect(rt, "memory");
+    disk_of(rt, alloc, bytes, fail)
 }
 
-/// Does a crash, and one inside the opening that follows it, leave the first `n` payloads, or one more?
-fn crash_leaves(alloc: Global, disk: &MemDisk, n: usize) -> Result<bool, Fail> {
+/// What the journal holds after so many of its three payloads.
+fn held(n: usize) -> &'static [u8] {
+    match n {
+        0 => b"",
+        1 => b"a;",
+        2 => b"a;bcd;",
+        _ => b"a;bcd;efghijklmnop;",
+    }
+}
+
+/// What a crash leaves of the disk, as this choice has it, holds the first `n` payloads, or one more.
+fn expect_held(rt: &impl Abort, alloc: Global, disk: &MemDisk, pick: u64, n: usize) {
+    let mut left = disk.stopped(pick).expect(rt, "memory");
+    let (_journal, payloads) = read_all(rt, alloc, &mut left).expect(rt, "opened");
+    let found = payloads.as_slice();
+    assert!(rt; found == held(n) || found == held(n.saturating_add(1)));
+}
+
+/// An opening of these bytes whose call of this number fails, and a crash in it, leave the first `n` payloads, or one more.
+fn expect_reopened(rt: &impl Abort, alloc: Global, bytes: &[u8], call: u64, n: usize) {
+    let mut disk = disk_failing(rt, alloc, bytes, call, 1);
+    let _answer = read_all(rt, alloc, &mut disk);
+    for pick in 0..8 {
+        expect_held(rt, alloc, &disk, pick, n);
+    }
+}
+
+/// A crash, and one inside the opening that follows it, leave the first `n` payloads, or one more.
+fn expect_crashes(rt: &impl Abort, alloc: Global, disk: &MemDisk, n: usize) {
     for pick in 0..64 {
-        if !holds(alloc, &mut disk.stopped(pick)?, n)? {
-            return Ok(false);
-        }
+        expect_held(rt, alloc, disk, pick, n);
     }
     for pick in 0..8 {
-        let left = disk.stopped(pick)?;
+        let left = disk.stopped(pick).expect(rt, "memory");
         for call in 1..6 {
-            let mut again = disk_of(alloc, left.bytes(0), vec![in alloc; (call, 1)]?)?;
-            let _answer = read_all(alloc, &mut again);
-            for pick in 0..8 {
-                if !holds(alloc, &mut again.stopped(pick)?, n)? {
-                    return Ok(false);
-                }
-            }
+            expect_reopened(rt, alloc, left.bytes(0), call, n);
         }
     }
-    Ok(true)
 }
 
-/// Is one payload more accepted?
-fn append_more<D: Disk>(alloc: Global, disk: &mut D, journal: &mut Journal) -> Result<bool, Fail>
-    requires read { is_read journal.old.stage ≡ true }
-    requires standing { IsStanding journal.old (D.history disk.old) }
-{
-    let more = record(alloc, b"z")?;
-    Ok(journal.append(disk, &more).is_ok())
-}
-
-/// Does a crash leave the first `n` payloads and the one more?
-fn holds_more(alloc: Global, disk: &MemDisk, n: usize) -> Result<bool, Fail> {
-    let expected = format!(in alloc; "{}z;", HELD.get(n).ok_or("held")?)?;
+/// A crash leaves the first `n` payloads and the one more.
+fn expect_more(rt: &impl Abort, alloc: Global, disk: &MemDisk, n: usize) {
     for pick in 0..8 {
-        let mut left = disk.stopped(pick)?;
-        let (_journal, payloads) = read_all(alloc, &mut left).ok().ok_or("opened")?;
-        if payloads.as_slice() != expected.as_bytes() {
-            return Ok(false);
-        }
+        let mut left = disk.stopped(pick).expect(rt, "memory");
+        let (_journal, payloads) = read_all(rt, alloc, &mut left).expect(rt, "opened");
+        let before = payloads
+            .as_slice()
+            .strip_suffix(b"z;")
+            .expect(rt, "one more");
+        assert!(rt; before == held(n));
     }
-    Ok(true)
 }
 
-/// A run on a disk whose call of this number fails: does each crash leave what was acknowledged, also after one append more?
-fn outlasts(alloc: Global, call: u64, kept: u32) -> Result<bool, Fail> {
-    let mut disk = disk_of(alloc, b"", vec![in alloc; (call, kept)]?)?;
-    let Ok((mut journal, _payloads)) = read_all(alloc, &mut disk) else {
-        return crash_leaves(alloc, &disk, 0);
+/// On a disk whose call of this number fails, each crash leaves what was acknowledged, also after one append more.
+fn outlasts(rt: &impl Abort, alloc: Global, call: u64, kept: u32) {
+    let mut disk = disk_failing(rt, alloc, b"", call, kept);
+    let Ok((mut journal, _payloads)) = read_all(rt, alloc, &mut disk) else {
+        return expect_crashes(rt, alloc, &disk, 0);
     };
-    let n = append_three(alloc, &mut disk, &mut journal)?;
-    if !crash_leaves(alloc, &disk, n)? {
-        return Ok(false);
+    let n = append_three(rt, alloc, &mut disk, &mut journal);
+    expect_crashes(rt, alloc, &disk, n);
+    if n < 3 {
+        let more = appends(rt, alloc, &mut disk, &mut journal, b"z");
+        assert!(rt; more);
+        expect_more(rt, alloc, &disk, n);
     }
-    if n == 3 {
-        return Ok(true);
-    }
-    Ok(append_more(alloc, &mut disk, &mut journal)? && holds_more(alloc, &disk, n)?)
 }
 
 #[test]
-fn a_crash_leaves_what_was_acknowledged(rt: HostRuntime) -> Result<(), Fail> {
+fn a_crash_leaves_what_was_acknowledged(rt: HostRuntime) {
     for call in 1..28 {
-        for kept in [0, u32::MAX] {
-            assert!(rt; outlasts(rt.alloc(), call, kept)?, "{call} {kept}");
-        }
+        outlasts(&rt, rt.alloc(), call, 0);
+        outlasts(&rt, rt.alloc(), call, u32::MAX);
     }
-    Ok(())
 }
 
-/// What the journal of a file holds or why it is refused, and the file then.
-fn opened(alloc: Global, file: &[u8]) -> Result<(Result<Vec<u8>, OpenFault>, MemDisk), Fail> {
-    let mut disk = disk_of(alloc, file, Vec::new(alloc))?;
-    let answer = read_all(alloc, &mut disk).map(|found| found.1);
-    Ok((answer, disk.stopped(0)?))
+/// Files, with `~` for a line feed; what their journal holds, or why it is refused; and the file then.
+const FILES: &str = " => [] => SQJRNAL~\0\0\0\x01\0\0\0\0\0
+S => [] => SQJRNAL~\0\0\0\x01\0\0\0\0\0
+\0 anything at all => [] => SQJRNAL~\0\0\0\x01\0\0\0\0\0
+?QJRNAL~\0\0\0\x01\0\0\0\x02R\0\0\0\x01a\0 => [] => SQJRNAL~\0\0\0\x01\0\0\0\0\0
+SQJRNAL~\0\0\0\x01\0\0\0\x02R\0\0\0\x01aQ => [a;] => SQJRNAL~\0\0\0\x01\0\0\0\x02R\0\0\0\x01a\0
+SQJRNAL~\0\0\0\x01\0\0\0\0R\0\0\0\x01a => [a;] => SQJRNAL~\0\0\0\x01\0\0\0\0R\0\0\0\x01a\0
+hello journal world! => NotAJournal { file: 0 } => hello journal world!
+SQJRNAL~\0\0\0\x02 => Version { file: 0, n: 2 } => SQJRNAL~\0\0\0\x02
+SQJRNAL~\0\0\0\x01\0\0\0\0R\0\0\0\x01aR\0\0\0\x03bc => BadRecord { at: 22 } => SQJRNAL~\0\0\0\x01\0\0\0\0R\0\0\0\x01aR\0\0\0\x03bc
+SQJRNAL~\0\0\0\x01\0\0\0\0R\0\0\0\0abc => BadRecord { at: 16 } => SQJRNAL~\0\0\0\x01\0\0\0\0R\0\0\0\0abc";
+
+/// What the journal of a file holds, or why it is refused, and the file then.
+fn opened(rt: &impl Abort, alloc: Global, file: &str) -> String {
+    let mut disk = disk_of(rt, alloc, file.as_bytes(), Vec::new(alloc));
+    let said = match read_all(rt, alloc, &mut disk) {
+        Ok((_journal, payloads)) => {
+            let payloads = String::from_utf8_lossy(alloc, &payloads).expect(rt, "memory");
+            format!(in alloc; "[{payloads}]")
+        }
+        Err(fault) => format!(in alloc; "{fault:?}"),
+    };
+    let said = said.expect(rt, "memory");
+    let left = disk.stopped(0).expect(rt, "memory");
+    let then = String::from_utf8_lossy(alloc, left.bytes(0)).expect(rt, "memory");
+    format!(in alloc; "{said} => {then}").expect(rt, "memory")
 }
 
 #[test]
-fn files_are_opened_or_refused(rt: HostRuntime) -> Result<(), Fail> {
+fn files_are_opened_or_refused(rt: HostRuntime) {
     let alloc = rt.alloc();
-    // a file, what its journal holds or why it is refused, and the file then
-    let table: [(&[u8], Result<&str, OpenFault>, &[u8]); 10] = [
-        (b"", Ok(""), &NEW),
-        (b"S", Ok(""), &NEW),
-        (b"\0 anything at all", Ok(""), &NEW),
-        (b"?QJRNAL\n\0\0\0\x01\0\0\0\x02R\0\0\0\x01a\0", Ok(""), &NEW),
-        (
-            b"SQJRNAL\n\0\0\0\x01\0\0\0\x02R\0\0\0\x01aQ",
-            Ok("a;"),
-            b"SQJRNAL\n\0\0\0\x01\0\0\0\x02R\0\0\0\x01a\0",
-        ),
-        (
-            b"SQJRNAL\n\0\0\0\x01\0\0\0\0R\0\0\0\x01a",
-            Ok("a;"),
-            b"SQJRNAL\n\0\0\0\x01\0\0\0\0R\0\0\0\x01a\0",
-        ),
-        (
-            b"hello journal world!",
-            Err(OpenFault::NotAJournal { file: 0 }),
-            b"hello journal world!",
-        ),
-        (
-            b"SQJRNAL\n\0\0\0\x02",
-            Err(OpenFault::Version { file: 0, n: 2 }),
-            b"SQJRNAL\n\0\0\0\x02",
-        ),
-        (
-            b"SQJRNAL\n\0\0\0\x01\0\0\0\0R\0\0\0\x01aR\0\0\0\x03bc",
-            Err(OpenFault::BadRecord { at: 22 }),
-            b"SQJRNAL\n\0\0\0\x01\0\0\0\0R\0\0\0\x01aR\0\0\0\x03bc",
-        ),
-        (
-            b"SQJRNAL\n\0\0\0\x01\0\0\0\0R\0\0\0\0abc",
-            Err(OpenFault::BadRecord { at: 16 }),
-            b"SQJRNAL\n\0\0\0\x01\0\0\0\0R\0\0\0\0abc",
-        ),
-    ];
-    for (file, expected, then) in table {
-        let (answer, left) = opened(alloc, file)?;
-        match answer {
-            Ok(payloads) => {
-                let text = expected.ok().ok_or("refused")?;
-                assert_eq!(rt; payloads.as_slice(), text.as_bytes());
-            }
-            Err(fault) => assert_eq!(rt; Err(fault), expected),
-        }
-        assert_eq!(rt; left.bytes(0), then);
+    for row in FILES.lines() {
+        let row = row.replace(alloc, "~", "\n").expect(&rt, "memory");
+        let (file, expected) = row.as_str().split_once(" => ").expect(&rt, "a row");
+        assert_eq!(rt; opened(&rt, alloc, file).as_str(), expected);
     }
-    Ok(())
 }
 
 #[test]
-fn a_payload_longer_than_the_window_is_read(rt: HostRuntime) -> Result<(), Fail> {
+fn a_payload_longer_than_the_window_is_read(rt: HostRuntime) {
     let alloc = rt.alloc();
-    let mut file = Vec::from_slice(alloc, &NEW[..16])?;
-    file.extend_from_slice(b"R\0\x01\x11\x70")?;
-    file.resize(16 + 5 + 70_000, 7)?;
-    file.extend_from_slice(b"R\0\0\0\x01a\0")?;
-    let mut disk = disk_of(alloc, file.as_slice(), Vec::new(alloc))?;
-    let (_journal, payloads) = read_all(alloc, &mut disk).ok().ok_or("opened")?;
+    let long = "x".repeat(alloc, 70_000).expect(&rt, "memory");
+    let file = format!(in alloc;
+        "SQJRNAL\n\0\0\0\x01\0\0\0\0R\0\x01\x11\x70{long}R\0\0\0\x01a\0"
+    ).expect(&rt, "memory");
+    let mut disk = disk_of(&rt, alloc, file.as_bytes(), Vec::new(alloc));
+    let (_journal, payloads) = read_all(&rt, alloc, &mut disk).expect(&rt, "opened");
     assert_eq!(rt; payloads.len(), 70_003);
-    assert!(rt; payloads.as_slice().ends_with(b"\x07;a;"));
-    Ok(())
+    assert!(rt; payloads.as_slice().ends_with(b"x;a;"));
 }
