@@ -11,5 +11,5 @@ mod request;
 pub use buffer::Buffer;
 pub use carry::Carry;
 pub use head::{MAX_BODY, MAX_FIELDS, MAX_HEAD, Refusal};
-pub use reply::{Body, BodyKind, Reply, WriteFault, write_all, write_reply};
+pub use reply::{Body, BodyKind, Reply, WriteFault, write_all, write_reply, write_two};
 pub use request::{MAX_INPUT, Request, WireFault, judges_each, read_request, reads_one_way};

@@ -91,8 +91,9 @@ pub fn write_reply<K: Sink>(sink: &mut K, reply: &Reply) -> Result<(), WriteFaul
     write_two(sink, head.as_str().as_bytes(), reply.body.as_slice())
 }
 
-// Writes two pieces: at once where they are short, since the second of two writes may wait for an answer to the first.
-fn write_two<K: Sink>(sink: &mut K, first: &[u8], second: &[u8]) -> Result<(), WriteFault>
+/// Writes two pieces, one after the other: at once where they are short, since the second of two writes may wait for an
+/// answer to the first. It takes no memory.
+pub fn write_two<K: Sink>(sink: &mut K, first: &[u8], second: &[u8]) -> Result<(), WriteFault>
     ensures whole { OnOk result (Appends (K.sink_state sink.old).written (K.sink_state sink.new).written (first.now ++ second.now)) }
     ensures prefix { OnErr result (AppendsPrefix (K.sink_state sink.old).written (K.sink_state sink.new).written (first.now ++ second.now)) }
     ensures cause { OnErr result (Rose (K.sink_state sink.old).faults (K.sink_state sink.new).faults) }

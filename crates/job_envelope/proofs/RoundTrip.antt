@@ -13,7 +13,7 @@ use Rattle.job_states.specs.Moment.{IsMoment, last_moment}
 use Rattle.job_envelope.specs.declared.member.Member.{Member}
 use Rattle.job_envelope.specs.declared.member.Member.TheVariants.{JobClass, JobId, QueueName, Priority, Executions, ScheduledAt}
 use Rattle.job_envelope.specs.Arguments.{first_args}
-use Rattle.job_envelope.specs.Envelope.{name_at, queue_at, priority_at, arguments_at, executions_at, counts_at, moment_at, job_of, envelope_of}
+use Rattle.job_envelope.specs.Envelope.{name_at, queue_at, priority_at, arguments_at, executions_at, counts_at, moment_at, names_of, job_of, envelope_of}
 use Rattle.job_envelope.specs.Kind.{name_from, priority_in, count_from, counts_of, moment_in, moment_from}
 use Rattle.job_envelope.specs.Written.{IsMomentText, IsScheduledAt, HasRanges, CanReadBack, envelope_data}
 
@@ -75,7 +75,7 @@ moment_data_read (Some moment) job args at last is = rw (is.2, moment_in-written
 joined : (text : List ℕ) (d : Data) (job : NewJob) (items : Items) → name_at JobClass d ≡ Ok job.class → name_at JobId d ≡ Ok job.active_id → queue_at d ≡ Ok job.queue
     → priority_at d ≡ Ok job.priority → arguments_at d ≡ Ok items → executions_at d ≡ Ok job.executions → counts_at d ≡ Ok job.counts → moment_at d ≡ Ok job.at
     → items_have_float items ≡ false → job_of text d ≡ Ok (record job { envelope = text; args = first_args items })
-unfolding job_of
+unfolding job_of names_of
 joined text d job items class active_id queue priority arguments executions counts at whole = rw (class, active_id, queue, priority, arguments, executions, counts, at, whole) refl
 
 pub job_of-envelope_data : (job : NewJob) (items : Items) (at : Data) (text : List ℕ) → HasRanges job → CanReadBack job items text → IsScheduledAt job.at at

@@ -37,18 +37,24 @@ counts_at envelope = or_default (optional ExceptionExecutions envelope) [] (coun
 unfoldable pub moment_at : Data → Judged (Option ℕ)
 moment_at envelope = or_default (unless_null (optional ScheduledAt envelope)) None (λ d. moment_in ScheduledAt d >>= λ moment. Ok (Some moment))
 
--- The job that an object asks for, its members judged in turn. The bytes that came are its envelope.
-unfoldable pub job_of : List ℕ → Data → Judged NewJob
-job_of bytes envelope = do
+-- the class, the job's name at Active Job, and the queue
+unfoldable pub names_of : Data → Judged (List ℕ × List ℕ × List ℕ)
+names_of envelope = do
   class ← name_at JobClass envelope
   active_id ← name_at JobId envelope
   queue ← queue_at envelope
+  Ok (class, active_id, queue)
+
+-- The job that an object asks for, its members judged in turn. The bytes that came are its envelope.
+unfoldable pub job_of : List ℕ → Data → Judged NewJob
+job_of bytes envelope = do
+  names ← names_of envelope
   priority ← priority_at envelope
   arguments ← arguments_at envelope
   executions ← executions_at envelope
   counts ← counts_at envelope
   at ← moment_at envelope
-  if items_have_float arguments then Err FloatArgument else Ok (record { class = class; queue = queue; priority = priority; active_id = active_id; envelope = bytes; executions = executions; counts = counts; at = at; args = first_args arguments })
+  if items_have_float arguments then Err FloatArgument else Ok (record { class = names.0; queue = names.2; priority = priority; active_id = names.1; envelope = bytes; executions = executions; counts = counts; at = at; args = first_args arguments })
 
 -- ---- the whole
 

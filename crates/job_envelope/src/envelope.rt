@@ -116,15 +116,24 @@ fn moment_at(envelope: &Value) -> Result<Option<Moment>, EnvelopeFault>
     }
 }
 
+/// The class, the job's name at Active Job, and the queue.
+#[tactic(auto, unfolding(crate::specs::Envelope::names_of))]
+fn names_of(alloc: Global, envelope: &Value) -> Result<(Name, Name, Name), EnvelopeFault>
+    ensures { Gives EnvelopeFault.NoMemory result (spec.names_of (view envelope.now)) }
+{
+    let class = name_at(alloc, envelope, Member::JobClass)?;
+    let active_id = name_at(alloc, envelope, Member::JobId)?;
+    let queue = queue_at(alloc, envelope)?;
+    Ok((class, active_id, queue))
+}
+
 /// The job that an object asks for, with the bytes that came as its envelope.
 #[tactic(auto, unfolding(crate::specs::Envelope::job_of))]
 fn job_of(alloc: Global, bytes: &[u8], envelope: &Value) -> Result<NewJob, EnvelopeFault>
     ensures exact { Gives EnvelopeFault.NoMemory result (spec.job_of bytes.now (view envelope.now)) }
     ensures ranges { IsTrue (is_envelope bytes.now) → IfOk result IsInRange }
 {
-    let class = name_at(alloc, envelope, Member::JobClass)?;
-    let active_id = name_at(alloc, envelope, Member::JobId)?;
-    let queue = queue_at(alloc, envelope)?;
+    let names = names_of(alloc, envelope)?;
     let priority = priority_at(envelope)?;
     let arguments = arguments_at(envelope)?;
     let executions = executions_at(envelope)?;
@@ -133,16 +142,19 @@ fn job_of(alloc: Global, bytes: &[u8], envelope: &Value) -> Result<NewJob, Envel
     if items_hold_float(arguments) {
         return Err(EnvelopeFault::FloatArgument);
     }
+    let args = first_args(alloc, arguments)?;
+    let envelope = Bytes::read(alloc, bytes)?;
+    let (class, active_id, queue) = names;
     Ok(NewJob {
         class,
         queue,
         priority,
         active_id,
-        envelope: Bytes::read(alloc, bytes)?,
+        envelope,
         executions,
         counts,
         at,
-        args: first_args(alloc, arguments)?,
+        args,
     })
 }
 

@@ -1,6 +1,4 @@
-ghost use Rattle.std.proofs.Common.{rules};
-
-use crate::{Copied, JobId, List, Moment, Name, Pid, Row, Stage, Text};
+use crate::{JobId, List, Moment, Name, Pid, Row, Stage, Text};
 
 /// A job's state as an answer reports it.
 #[derive(Clone, Copy)]
@@ -20,12 +18,8 @@ pub struct Made {
     pub state: Outcome,
 }
 
-impl Copied for Made {
-    ghost exact = { Prim.search rules };
-}
-
 /// A claimed job as its worker gets it.
-#[derive(Clone, Drop)]
+#[derive(Drop)]
 pub struct Polled {
     pub active_id: Name,
     pub class: Name,
@@ -36,12 +30,8 @@ pub struct Polled {
     pub queue: Name,
 }
 
-impl Copied for Polled {
-    ghost exact = { Prim.search rules };
-}
-
 /// The answer to a command that was accepted.
-#[derive(Clone, Drop)]
+#[derive(Drop)]
 pub enum Answer {
     /// To an enqueue, and to a task that is run by hand.
     Enqueued(Made),
@@ -100,12 +90,8 @@ pub enum Answer {
     NotDue,
 }
 
-impl Copied for Answer {
-    ghost exact = { Prim.search rules };
-}
-
 /// Why a command was refused.
-#[derive(Clone, Drop)]
+#[derive(Drop)]
 pub enum Refused {
     /// The class of the job at this place of the command isn't in the settings.
     UnknownClass { index: u32, class: Name },
@@ -131,8 +117,4 @@ pub enum Refused {
     /// An open transaction at the seat `by` holds the row.
     Locked { row: Row, by: u32 },
     NoMemory,
-}
-
-impl Copied for Refused {
-    ghost exact = { Prim.search rules };
 }

@@ -1,9 +1,7 @@
-ghost use Rattle.std.proofs.Common.{rules};
-
-use crate::{Bytes, Copied, Counted, List, Moment, Name, Stage, Text};
+use crate::{Bytes, Counted, List, Moment, Name, Stage, Text};
 
 /// A job that is asked for.
-#[derive(Clone, Drop)]
+#[derive(Drop)]
 pub struct NewJob {
     pub class: Name,
     pub queue: Name,
@@ -18,22 +16,14 @@ pub struct NewJob {
     pub args: List<Arg>,
 }
 
-impl Copied for NewJob {
-    ghost exact = { Prim.search rules };
-}
-
 /// An argument of a job, as far as a concurrency key can be made of it.
-#[derive(Clone, Drop)]
+#[derive(Drop)]
 pub enum Arg {
     Null,
     Text(Text),
     /// From -2^63 to 2^64-1.
     Whole(i128),
     Other,
-}
-
-impl Copied for Arg {
-    ghost exact = { Prim.search rules };
 }
 
 /// The kind of a process.
@@ -46,7 +36,7 @@ pub enum Kind {
 }
 
 /// What callers, workers, dispatchers and maintenance ask for.
-#[derive(Clone, Drop)]
+#[derive(Drop)]
 pub enum Command {
     Enqueue {
         job: NewJob,
@@ -120,8 +110,4 @@ pub enum Command {
         task: Name,
     },
     ClearFinished,
-}
-
-impl Copied for Command {
-    ghost exact = { Prim.search rules };
 }

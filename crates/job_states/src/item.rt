@@ -1,9 +1,7 @@
-ghost use Rattle.std.proofs.Common.{rules};
-
-use crate::{Copied, JobId, JobRow, Kind, Moment, Name, Pid, State, Text};
+use crate::{JobId, JobRow, Kind, Moment, Name, Pid, State, Text};
 
 /// One item of a snapshot of the store.
-#[derive(Clone, Drop)]
+#[derive(Drop)]
 pub enum Item {
     Job {
         row: JobRow,
@@ -44,8 +42,4 @@ pub enum Item {
         generation: u64,
         moment: Moment,
     },
-}
-
-impl Copied for Item {
-    ghost exact = { Prim.search rules };
 }

@@ -63,7 +63,7 @@ impl Copied for Limited {
 }
 
 /// Where a job stands. The `Option<u64>` is the generation of the permit that the job holds.
-#[derive(Clone, Drop)]
+#[derive(Drop)]
 pub enum State {
     /// It becomes due at this moment.
     Scheduled(Moment),
@@ -79,10 +79,6 @@ pub enum State {
     },
     /// It ended at this moment.
     Finished(Moment),
-}
-
-impl Copied for State {
-    ghost exact = { Prim.search rules };
 }
 
 impl State {

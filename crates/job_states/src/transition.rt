@@ -1,6 +1,4 @@
-ghost use Rattle.std.proofs.Common.{rules};
-
-use crate::{Copied, Counted, JobId, JobRow, Kind, List, Moment, Name, Pid, Stage, State, Text};
+use crate::{Counted, JobId, JobRow, Kind, List, Moment, Name, Pid, Stage, State, Text};
 use thiserror::Error;
 
 /// The place that a transition gives a job.
@@ -15,18 +13,14 @@ pub enum Put {
 }
 
 /// What a failure leaves in a job's row.
-#[derive(Clone, Drop)]
+#[derive(Drop)]
 pub struct Counters {
     pub executions: u32,
     pub counts: List<Counted>,
 }
 
-impl Copied for Counters {
-    ghost exact = { Prim.search rules };
-}
-
 /// One change of the store.
-#[derive(Clone, Drop)]
+#[derive(Drop)]
 pub enum Transition {
     Enqueue {
         row: JobRow,
@@ -94,10 +88,6 @@ pub enum Transition {
     },
 }
 
-impl Copied for Transition {
-    ghost exact = { Prim.search rules };
-}
-
 /// A job isn't in the state that a transition takes it from.
 #[derive(Clone, Copy, Debug, Error)]
 #[error("job {id} is not in the state that the transition takes it from")]
@@ -151,13 +141,9 @@ impl Transition {
 }
 
 /// Changes that are made together, at one moment.
-#[derive(Clone, Drop)]
+#[derive(Drop)]
 pub struct Transaction {
     pub moment: Moment,
     /// 1 to 2000 of them.
     pub steps: List<Transition>,
-}
-
-impl Copied for Transaction {
-    ghost exact = { Prim.search rules };
 }

@@ -1,5 +1,5 @@
 -- The JSON of arguments.
-use Rattle.std.proofs.Common.{◌≡◌, ℤ, pos, negsuc, Bool, false, ◌||◌, List, [], ◌∷◌, map, refl}
+use Rattle.std.proofs.Common.{◌≡◌, ℤ, pos, negsuc, false, List, [], ◌∷◌, map, refl}
 use Rattle.serde_json.specs.Find.{of_integer, is_float}
 use Rattle.serde_json.specs.View.{items_of}
 use Rattle.serde_json.specs.Written.{has_float, items_have_float}

@@ -1,10 +1,9 @@
 -- Where no parents come round, a line of as many parents as there are errors, and one more, has all ancestors.
-use Rattle.std.proofs.Common.{◌≡◌, ◌≤◌, ◌<◌, ◌⊎◌, inl, inr, ℕ, zero, suc, ◌+◌, ◌-◌, Bool, true, false, ◌||◌, List, [], ◌∷◌, length, get_or, All, None, refl, sym, ap, ◌∙◌, arith}
-use Rattle.std.proofs.lemmas.Bool.{true≢false}
+use Rattle.std.proofs.Common.{◌≡◌, ◌≤◌, ◌<◌, ◌⊎◌, inl, inr, ℕ, zero, suc, ◌+◌, ◌-◌, Bool, true, false, ◌||◌, List, length, get_or, All, refl, sym, ap, ◌∙◌, arith}
 use Rattle.std.proofs.lemmas.List.Folds.{list_any_at}
 use Rattle.job_states.specs.Texts.{is_among}
 use Rattle.queue_config.specs.declared.config.ErrorKeys.{ErrorKeys}
-use Rattle.queue_config.specs.Errors.{standard_error, find_error, parent_in, parent_of, ancestor, IsKindOf, line, meets, is_kind_of, is_own_ancestor}
+use Rattle.queue_config.specs.Errors.{standard_error, parent_in, parent_of, ancestor, IsKindOf, line, meets, is_kind_of, is_own_ancestor}
 use Rattle.queue_config.specs.Ranges.{IsErrorKeys}
 use Rattle.queue_config.proofs.ErrorLemmas.{find_standard, meets_step, meets_last}
 use Rattle.queue_config.proofs.RootLemmas.{ancestor-add, line_at, length_line, rooted}

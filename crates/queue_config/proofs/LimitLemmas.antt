@@ -1,5 +1,5 @@
 -- The range of a limit's key.
-use Rattle.std.proofs.Common.{◌≡◌, ◌<◌, ◌≤◌, ℕ, suc, ◌+◌, ◌^◌, ◌++◌, ℤ, pos, negsuc, List, length, codes, Bool, true, Some, arith, length-append}
+use Rattle.std.proofs.Common.{◌≡◌, ◌<◌, ◌≤◌, ℕ, suc, ◌+◌, ◌^◌, ◌++◌, ℤ, pos, negsuc, List, length, codes, true, Some, arith, length-append}
 use lib.Signed.{mag}
 use Rattle.std.proofs.lemmas.Fmt.{length-decimal-le_wide, decimal_is_IsNumeral_wide}
 use Rattle.std.specs.Fmt.{decimal, signed_decimal}

@@ -1,7 +1,7 @@
 -- Where no parents come round, those of each error end at `StandardError`.
-use Rattle.std.proofs.Common.{◌≡◌, ◌≢◌, ◌<◌, ◌≤◌, ◌⊎◌, inl, inr, ℕ, zero, suc, ◌+◌, ◌-◌, Bool, true, false, cond, ◌||◌, List, [], ◌∷◌, length, get_or, map, All, AllPairs, Option, Some, None, refl, sym, ap, subst, ◌∙◌, arith}
-use Rattle.std.specs.List.{find, list_any}
-use Rattle.std.specs.Option.{is_some, IsSome}
+use Rattle.std.proofs.Common.{◌≡◌, ◌≢◌, ◌<◌, ◌≤◌, ◌⊎◌, inl, inr, ℕ, zero, suc, ◌+◌, ◌-◌, Bool, true, false, cond, ◌||◌, List, [], ◌∷◌, length, get_or, map, All, AllPairs, Option, Some, None, refl, sym, ap, ◌∙◌, arith}
+use Rattle.std.specs.List.{list_any}
+use Rattle.std.specs.Option.{is_some}
 use Rattle.std.specs.Str.{bytes_eq}
 use Rattle.std.proofs.lemmas.Bool.{true≢false}
 use Rattle.std.proofs.lemmas.Cmp.{nat_list_eq_equiv}
@@ -11,7 +11,7 @@ use Rattle.std.proofs.lemmas.Map.Made.{IsDistinct-from_AllPairs, length-le_from_
 use Rattle.std.proofs.lemmas.Slice.Eq.{bytes_eq-Decides}
 use Rattle.job_states.specs.Texts.{is_among}
 use Rattle.queue_config.specs.declared.config.ErrorKeys.{ErrorKeys}
-use Rattle.queue_config.specs.Errors.{standard_error, find_error, parent_in, parent_of, ancestor, IsKindOf, line, is_own_ancestor}
+use Rattle.queue_config.specs.Errors.{standard_error, find_error, parent_in, parent_of, ancestor, line, is_own_ancestor}
 use Rattle.queue_config.proofs.ErrorLemmas.{All-find}
 
 -- ---- lines

@@ -1,14 +1,12 @@
 -- Settings in which nothing is wrong.
-use Rattle.std.proofs.Common.{◌≡◌, ◌≢◌, ◌<◌, ◌≤◌, ℕ, zero, suc, ◌+◌, Bool, true, false, cond, not, nat_lt, List, [], ◌∷◌, length, All, AllPairs, Option, Some, None, refl, sym, ap, ◌∙◌, arith, slice_index_or}
+use Rattle.std.proofs.Common.{◌≡◌, ◌≢◌, ◌<◌, ◌≤◌, ℕ, zero, suc, ◌+◌, Bool, true, false, cond, not, nat_lt, List, [], ◌∷◌, length, All, AllPairs, Option, Some, None, refl, sym, ◌∙◌, arith, slice_index_or}
 use Rattle.std.proofs.lemmas.Bool.{true≢false}
 use Rattle.std.proofs.lemmas.Bool.Decides.{nat_tests}
 use Rattle.std.proofs.lemmas.Cmp.{nat_list_eq_equiv}
 use Rattle.std.specs.List.{position, position_or_len}
 use Rattle.std.specs.Option.{is_none, is_some}
-use Rattle.std.specs.Str.{bytes_eq}
 use Rattle.queue_config.specs.declared.config.Config.{Config}
 use Rattle.queue_config.specs.Errors.{is_own_ancestor}
-use Rattle.queue_config.specs.Limits.{find_class}
 use Rattle.queue_config.specs.Named.{first_clash, first_repeat, same_name}
 use Rattle.queue_config.specs.Ranges.{HasRanges, IsConfig}
 use Rattle.queue_config.specs.Wrong.{lacks_class, clash}

@@ -1,5 +1,5 @@
 -- What is judged once all tables are read, beside the faults of single members.
-use Rattle.std.specs.Prelude.{ℕ, List, codes, Option, Some, None, Ok, Err}
+use Rattle.std.specs.Prelude.{ℕ, List, Option, Some, None, Ok, Err}
 use Rattle.toml_members.specs.Fault.{Judged}
 use Rattle.toml_members.specs.Key.{key_in, element_of}
 use Rattle.toml_members.specs.declared.fault.SettingsFault.TheVariants.{Refused}

@@ -1,5 +1,5 @@
 -- What holds of each accepted value.
-use Rattle.std.specs.Prelude.{◌≡◌, ◌≢◌, ◌≤◌, ℕ, Bool, false, List, length, map, sum_by, Ok, All, AllPairs}
+use Rattle.std.specs.Prelude.{◌≡◌, ◌≢◌, ◌≤◌, ℕ, false, List, length, map, sum_by, Ok, All, AllPairs}
 use Rattle.std.specs.Option.{ForSome, IsSome}
 use Rattle.serde_json.specs.Data.{Data, boolean, number, string, array}
 use Rattle.serde_json.specs.Find.{of_integer}

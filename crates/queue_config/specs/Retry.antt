@@ -10,7 +10,6 @@ use Rattle.queue_config.specs.declared.config.ErrorKeys.{ErrorKeys}
 use Rattle.queue_config.specs.declared.config.Rule.{Rule}
 use Rattle.queue_config.specs.declared.config.RuleAct.{RuleAct}
 use Rattle.queue_config.specs.declared.config.RuleAct.TheVariants as rule
-use Rattle.queue_config.specs.declared.retry.Act.{Act}
 use Rattle.queue_config.specs.declared.retry.Act.TheVariants.{Fail, Discard, Retry}
 use Rattle.queue_config.specs.declared.retry.Decision.{Decision}
 use Rattle.queue_config.specs.Errors.{is_kind_of}

@@ -174,18 +174,24 @@ args_at place key limit ms = do
 unfoldable pub task_members : List ℕ → Data → Judged Members
 task_members place d = section place (codes "key" ∷ codes "class" ∷ codes "schedule" ∷ codes "queue" ∷ codes "priority" ∷ codes "args" ∷ []) d
 
+-- the text of a schedule, and what it says
+unfoldable pub schedule_at : List ℕ → Members → Judged (List ℕ × Schedule)
+schedule_at place ms = do
+  spelled ← needed place (codes "schedule") ms
+  text ← text_in (key_in place (codes "schedule")) spelled
+  schedule ← schedule_in (key_in place (codes "schedule")) (schedule_of text)
+  Ok (text, schedule)
+
 unfoldable pub task_of : List Class → List Task → List ℕ → Data → Judged Task
 task_of classes before place d = do
   ms ← task_members place d
   key ← name_at place (codes "key") ms
   class ← name_at place (codes "class") ms
-  spelled ← needed place (codes "schedule") ms
-  text ← text_in (key_in place (codes "schedule")) spelled
-  schedule ← schedule_in (key_in place (codes "schedule")) (schedule_of text)
+  timed ← schedule_at place ms
   queue ← name_or place (codes "queue") (codes "default") ms
   priority ← whole_at place (codes "priority") (negsuc 2_147_483_647) (pos 2_147_483_647) (pos 0) ms
   args ← args_at place (codes "args") (limit_in (find_class class classes)) ms
-  Ok (record { key = key; class = class; schedule = schedule; schedule_text = text; queue = queue; priority = priority; args = args })
+  Ok (record { key = key; class = class; schedule = timed.1; schedule_text = timed.0; queue = queue; priority = priority; args = args })
 
 -- ---- workers
 

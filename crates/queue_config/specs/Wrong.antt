@@ -1,5 +1,5 @@
 -- What can be wrong with settings all of whose tables are as they should be.
-use Rattle.std.specs.Prelude.{ℕ, ◌==◌, Bool, false, ◌&&◌, not, List, [], codes, Option, Some, None, Ok}
+use Rattle.std.specs.Prelude.{◌==◌, Bool, false, ◌&&◌, not, List, [], codes, Option, Some, None, Ok}
 use Rattle.std.specs.List.{position}
 use Rattle.std.specs.Option.{is_none}
 use Rattle.std.specs.Str.{bytes_eq}
@@ -7,7 +7,6 @@ use Rattle.job_states.specs.Judged.{◌>>=◌}
 use Rattle.toml_members.specs.Fault.{Judged}
 use Rattle.queue_config.specs.declared.config.Class.{Class}
 use Rattle.queue_config.specs.declared.config.Config.{Config}
-use Rattle.queue_config.specs.declared.config.ErrorKeys.{ErrorKeys}
 use Rattle.queue_config.specs.declared.config.Limit.{Limit}
 use Rattle.queue_config.specs.declared.config.Task.{Task}
 use Rattle.queue_config.specs.Errors.{is_own_ancestor}

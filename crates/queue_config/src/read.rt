@@ -1,9 +1,9 @@
-ghost use Rattle.std.specs.Prelude.{◌≡◌, ◌<◌, ◌≤◌, length, codes, All, IfOk};
+ghost use Rattle.std.specs.Prelude.{◌≡◌, ◌<◌, ◌≤◌, length, codes, [], All, IfOk};
 ghost use Rattle.toml.specs.Data as toml;
 ghost use Rattle.toml.specs.Data.{get_member};
 ghost use Rattle.toml.specs.View.{view, table_view};
 ghost use Rattle.job_states.specs.Judged.{Gives, GivesAs};
-ghost use Rattle.toml_members.specs.Kind.{or_empty};
+ghost use Rattle.toml_members.specs.Kind.{array_at, or_empty};
 ghost use Rattle.queue_config.specs.Fault.{too_long};
 ghost use Rattle.queue_config.specs.Ranges.{HasRanges, IsConfig};
 ghost use Rattle.queue_config.specs.Settings as spec;
@@ -11,10 +11,10 @@ ghost use Rattle.queue_config.specs.Settings as spec;
 use crate::tables::{dispatcher_of, jobs_of, processes_of};
 use crate::worker::workers_at;
 use crate::wrong::judge;
-use crate::{Config, Index};
+use crate::{Config, HasName, Index};
 use std::alloc::Global;
 use toml::{Table, Value};
-use toml_members::{Key, SettingsFault, array_at, document_of, known, optional};
+use toml_members::{Element, Key, SettingsFault, array_at, document_of, known, optional};
 
 /// The number of a text that is too long.
 const TOO_LONG: u8 = 10;
@@ -30,19 +30,34 @@ fn table<'t>(top: &'t Table, key: &str, empty: &'t Value) -> &'t Value
     optional(top, key).unwrap_or(empty)
 }
 
-/// The settings of these tables, each judged by itself.
+/// The elements of an array at the top, by their names.
+fn index_at<C, E: Element<C> + HasName>(
+    alloc: Global,
+    context: &C,
+    key: &str,
+    top: &Table,
+) -> Result<Index<E>, SettingsFault>
+    requires { E.holds context.now [] }
+    ensures given { Gives SettingsFault.NoMemory result (array_at (E.judged context.now) [] key.now 1024 (table_view top.now)) }
+    ensures holds { IfOk result (λ elements. E.holds context.now elements) }
+    ensures count { IfOk result (λ elements. length elements ≤ 1024) }
+{
+    Ok(Index::of(alloc, array_at(alloc, context, "", key, MOST, top)?)?)
+}
+
+/// The settings of these tables, each judged by itself. An absent one is as the empty one.
 #[tactic(auto, unfolding(crate::specs::Settings::tables_of))]
-fn tables_of(alloc: Global, top: &Table) -> Result<Config, SettingsFault>
+fn tables_of(alloc: Global, top: &Table, empty: &Value) -> Result<Config, SettingsFault>
+    requires { view empty.now ≡ toml.table toml.no_members }
     ensures given { Gives SettingsFault.NoMemory result (spec.tables_of (table_view top.now)) }
     ensures ranges { IfOk result HasRanges }
 {
-    let empty = Value::Table(Table::new(alloc));
-    let classes = Index::of(alloc, array_at(alloc, &(), "", "classes", MOST, top)?)?;
-    let dispatcher = dispatcher_of(alloc, "dispatcher", table(top, "dispatcher", &empty))?;
-    let errors = Index::of(alloc, array_at(alloc, &(), "", "errors", MOST, top)?)?;
-    let jobs = jobs_of(alloc, "jobs", table(top, "jobs", &empty))?;
-    let processes = processes_of(alloc, "processes", table(top, "processes", &empty))?;
-    let tasks = Index::of(alloc, array_at(alloc, &classes, "", "tasks", MOST, top)?)?;
+    let classes = index_at(alloc, &(), "classes", top)?;
+    let dispatcher = dispatcher_of(alloc, "dispatcher", table(top, "dispatcher", empty))?;
+    let errors = index_at(alloc, &(), "errors", top)?;
+    let jobs = jobs_of(alloc, "jobs", table(top, "jobs", empty))?;
+    let processes = processes_of(alloc, "processes", table(top, "processes", empty))?;
+    let tasks = index_at(alloc, &classes, "tasks", top)?;
     let workers = workers_at(alloc, top)?;
     Ok(Config {
         classes,
@@ -78,7 +93,7 @@ fn settings_of(alloc: Global, top: &Table) -> Result<Config, SettingsFault>
     ensures accepted { IfOk result IsConfig }
 {
     top_members(alloc, top)?;
-    let config = tables_of(alloc, top)?;
+    let config = tables_of(alloc, top, &Value::Table(Table::new(alloc)))?;
     judge(alloc, &config)?;
     Ok(config)
 }

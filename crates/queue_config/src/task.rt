@@ -1,4 +1,4 @@
-ghost use Rattle.std.specs.Prelude.{◌≡◌, ◌≤◌, false, length, map, option_map, string_bytes, All, IfOk, codes};
+ghost use Rattle.std.specs.Prelude.{◌≡◌, ◌≤◌, false, length, map, option_map, string_bytes, All, IfOk, Ok, codes};
 ghost use Rattle.serde_json.specs.View as json;
 ghost use Rattle.toml.specs.View.{view, table_view};
 ghost use Rattle.job_states.specs.Judged.{Gives, GivesAs};
@@ -34,6 +34,18 @@ fn schedule_in(alloc: Global, place: &str, text: &str) -> Result<Schedule, Setti
         Ok(schedule) => Ok(schedule),
         Err(_) => refused(alloc, SettingsFault::NOT_ALLOWED, place, "schedule"),
     }
+}
+
+/// The text of a task's schedule, and what it says.
+#[tactic(auto, unfolding(crate::specs::Settings::schedule_at))]
+fn schedule_at(alloc: Global, place: &str, table: &Table) -> Result<(Text, Schedule), SettingsFault>
+    ensures given { Gives SettingsFault.NoMemory result (spec.schedule_at place.now (table_view table.now)) }
+    ensures read { IfOk result (λ timed. schedule_of timed.0 ≡ Ok timed.1) }
+{
+    let spelled = needed(alloc, place, "schedule", table)?;
+    let text = Text::read(alloc, text_in(alloc, place, "schedule", spelled)?)?;
+    let schedule = schedule_in(alloc, place, text.as_str())?;
+    Ok((text, schedule))
 }
 
 // ---- arguments
@@ -172,17 +184,16 @@ impl Element<Index<Class>> for Task {
         let table = task_members(alloc, place, value)?;
         let key = name_at(alloc, place, "key", table)?;
         let class = name_at(alloc, place, "class", table)?;
-        let spelled = needed(alloc, place, "schedule", table)?;
-        let text = Text::read(alloc, text_in(alloc, place, "schedule", spelled)?)?;
-        let schedule = schedule_in(alloc, place, text.as_str())?;
+        let timed = schedule_at(alloc, place, table)?;
         let queue = name_or(alloc, place, "queue", "default", table)?;
         let priority = whole_at(alloc, place, &PRIORITY, table)? as i32;
         let args = args_at(alloc, classes, &class, place, table)?;
+        let (schedule_text, schedule) = timed;
         Ok(Task {
             key,
             class,
             schedule,
-            schedule_text: text,
+            schedule_text,
             queue,
             priority,
             args,

@@ -1,4 +1,4 @@
-use Rattle.std.proofs.Common.{◌≡◌, ◌+◌, ◌-◌, false, true, Some, None, refl, sym, ap, ◌∙◌}
+use Rattle.std.proofs.Common.{◌≡◌, ◌+◌, ◌-◌, false, true, Some, None, sym, ap, ◌∙◌}
 use Rattle.job_states.specs.Texts.{is_among}
 use Rattle.queue_config.specs.Errors.{find_error, meets, parent_in}
 use Rattle.queue_config.proofs.ErrorLemmas.{meets_here, meets_above, meets_end, meets_standard}

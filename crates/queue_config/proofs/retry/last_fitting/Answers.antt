@@ -1,4 +1,4 @@
-use Rattle.std.proofs.Common.{◌≡◌, true, false, Some, option_map, sym, ap, ◌∙◌, arith}
+use Rattle.std.proofs.Common.{true, false, option_map, sym, ap, ◌∙◌, arith}
 use Rattle.queue_config.specs.Ranges.{IsRule}
 use Rattle.queue_config.specs.Retry.{fits, last_from}
 use Rattle.queue_config.proofs.RuleLemmas.{last_more, last_end, last_found}

@@ -1,4 +1,4 @@
-use Rattle.std.proofs.Common.{◌≡◌, Some, sym}
+use Rattle.std.proofs.Common.{sym}
 use Rattle.std.specs.Str.{bytes_eq}
 use Rattle.queue_config.specs.Ranges.{IsClass}
 use Rattle.queue_config.proofs.ErrorLemmas.{All-find}

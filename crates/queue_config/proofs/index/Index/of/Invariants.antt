@@ -1,4 +1,4 @@
-use Rattle.std.proofs.Common.{◌≡◌, [], drop, take}
+use Rattle.std.proofs.Common.{◌≡◌, drop, take}
 use Rattle.std.specs.Option.{option_or}
 use Rattle.queue_config.specs.Index.{ArePlaces}
 use Rattle.queue_config.specs.Named.{first_clash, first_repeat, same_name}

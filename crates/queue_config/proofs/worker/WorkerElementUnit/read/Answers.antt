@@ -1,7 +1,7 @@
-use Rattle.std.proofs.Common.{◌≡◌, ◌≤◌, ◌+◌, ◌∷◌, [], ◌++◌, rules, refl, arith}
+use Rattle.std.proofs.Common.{rules, refl, arith}
 use Rattle.std.proofs.lemmas.List.Elements.{All-push}
 use Rattle.std.proofs.lemmas.List.Sums.{sum_by_push}
-use Rattle.queue_config.specs.Ranges.{IsWorker, threads_of}
+use Rattle.queue_config.specs.Ranges.{IsWorker}
 use Rattle.queue_config.specs.Settings.{worker_of}
 use Rattle.queue_config.proofs.worker.WorkerElementUnit.read.Goals as goal
 
