@@ -8,12 +8,13 @@ use Rattle.http_wire.specs.Reply.{AppendsPrefix}
 use Rattle.journal_keeper.specs.declared.fault.OpenFault.{OpenFault}
 use Rattle.journal_keeper.specs.declared.fault.OpenFault.TheVariants as fault
 use Rattle.queue_config.specs.declared.config.Config.{Config}
+use Rattle.queue_cli.specs.declared.command.Command.{Command}
 use Rattle.queue_cli.specs.declared.end.End.{End}
 use Rattle.queue_cli.specs.declared.end.End.TheVariants.{BadSettings, ReadFault, NoMemory}
 use Rattle.queue_cli.specs.Journal.{LacksJournal, open_end}
 use Rattle.queue_cli.specs.LastText.{IsReported, IsUnreported, WritesLast, Reports}
 use Rattle.queue_cli.specs.Outside.{Outside}
-use Rattle.queue_cli.specs.Run.{EndsWithoutJournal, EndsWithoutSettings}
+use Rattle.queue_cli.specs.Run.{EndsWithoutJournal, EndsWithoutSettings, Performs}
 use Rattle.queue_cli.specs.Settings.{HasSettings, LacksSettings}
 
 -- a piece, written whole or not
@@ -29,7 +30,7 @@ nothing old new same =
     subst P same (record { part = []; after = []; parts = refl; written = Appends-nil old.written; whole = inl refl })
 
 -- the end of a run without settings is reported
-pub without_settings : (old new : Outside) (end reported : End) → LacksSettings old.settings new.settings end → new.input ≡ old.input → new.disk ≡ old.disk → new.moments ≡ old.moments
+without_settings : (old new : Outside) (end reported : End) → LacksSettings old.settings new.settings end → new.input ≡ old.input → new.disk ≡ old.disk → new.moments ≡ old.moments
     → Reports old.output new.output end reported → EndsWithoutSettings old new reported
 without_settings old new (BadSettings number key) reported cause input disk moments (inl is) =
     let P : End → Type 0 = EndsWithoutSettings old new in
@@ -55,12 +56,14 @@ reported_or_not old new fault.DiskFault reported is = inl is
 reported_or_not old new fault.NoMemory reported is = inl is
 
 -- the end of a run without a journal is reported
-pub without_journal : (old new : Outside) (settings : Config) (f : OpenFault) (reported : End) → HasSettings old.settings new.settings settings → LacksJournal old.disk new.disk (open_end f)
-    → new.input ≡ old.input → new.moments ≡ old.moments → Reports old.output new.output (open_end f) reported → EndsWithoutJournal old new reported
-without_journal old new settings f reported accepted lacks input moments reports =
+without_journal : (old new : Outside) (settings : Config) (end reported : End) → HasSettings old.settings new.settings settings → LacksJournal old.disk new.disk end
+    → new.input ≡ old.input → new.moments ≡ old.moments → Reports old.output new.output end reported → EndsWithoutJournal old new reported
+without_journal old new settings end reported accepted lacks input moments reports =
     let P : End → Type 0 = EndsWithoutJournal old new in
-    elim (reported_or_not old.output new.output f reported reports) [
-      | inl is ↦ subst P (sym is.same) (record { settings = settings; accepted = accepted; cause = lacks; input = input; moments = moments; written = is.written })
+    let Q : End → Type 0 = λ e. Reports old.output new.output e reported in
+    let R : End → Type 0 = LacksJournal old.disk new.disk in
+    elim (reported_or_not old.output new.output lacks.fault reported (subst Q lacks.end_is reports)) [
+      | inl is ↦ subst P (sym is.same) (record { settings = settings; accepted = accepted; cause = subst R lacks.end_is lacks; input = input; moments = moments; written = is.written })
       | inr none ↦ subst P (sym none.memory) (record {
         settings = settings;
         accepted = accepted;
@@ -70,6 +73,13 @@ without_journal old new settings f reported accepted lacks input moments reports
         written = nothing old.output new.output none.output;
       })
     ]
+
+-- the end of a run that lacks one of them is reported
+pub without_engine : (command : Command) (old new : Outside) (end reported : End)
+    → (LacksSettings old.settings new.settings end × (new.disk ≡ old.disk)) ⊎ ((settings : Config) × HasSettings old.settings new.settings settings × LacksJournal old.disk new.disk end)
+    → new.input ≡ old.input → new.moments ≡ old.moments → Reports old.output new.output end reported → Performs (Some command) old new reported
+without_engine command old new end reported (inl lacks) input moments reports = inl (without_settings old new end reported lacks.0 input lacks.1 moments reports)
+without_engine command old new end reported (inr lacks) input moments reports = inr (inl (without_journal old new lacks.0 end reported lacks.1 lacks.2 input moments reports))
 
 -- ---- what a call says by its answer
 

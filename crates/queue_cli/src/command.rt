@@ -1,11 +1,14 @@
 //! The commands, and the top call that runs one.
-ghost use Rattle.std.specs.Prelude.{◌≡◌, is_some, map, string_bytes, None};
+ghost use Rattle.std.specs.Prelude.{◌≡◌, ◌⊎◌, is_some, map, string_bytes, None, IfOk, IfErr};
 ghost use Rattle.sq_outside.specs.Streams.{SourceState};
+ghost use Rattle.queue_config.specs.declared.config.Config.{Config};
 ghost use Rattle.queue_engine.specs.Standing.{StandsOn};
 ghost use Rattle.queue_http.specs.Service.{DiskState, disk_state, IsIdle};
 ghost use Rattle.queue_cli.specs.Command.{command_of};
+ghost use Rattle.queue_cli.specs.Journal.{HasJournal, LacksJournal};
 ghost use Rattle.queue_cli.specs.Outside.{outside};
 ghost use Rattle.queue_cli.specs.Run.{Performs, Runs, RunsOver};
+ghost use Rattle.queue_cli.specs.Settings.{HasSettings, LacksSettings};
 
 use crate::End;
 use crate::exec::exec;
@@ -98,15 +101,34 @@ fn perform<S1: Source, S2: Source, K: Sink, D: Disk, C: Clock>(
     let Some(command) = command else {
         return End::Usage.report(alloc, output);
     };
-    match read_settings(alloc, config) {
-        Ok(settings) => match Engine::open(alloc, disk, settings) {
-            Ok(mut engine) => {
-                engine.view();
-                perform_over(command, alloc, &mut engine, input, output, disk, clock)
-            }
-            Err(fault) => End::of_open_fault(fault).report(alloc, output),
-        },
+    match open(alloc, config, disk) {
+        Ok(mut engine) => {
+            let end = perform_over(command, alloc, &mut engine, input, output, disk, clock);
+            // one call in place of a drop of each part keeps the proof short
+            drop(engine);
+            end
+        }
         Err(end) => end.report(alloc, output),
+    }
+}
+
+// Reads the settings and opens the journal, or answers how a run ends that lacks one of them.
+fn open<S: Source, D: Disk>(alloc: Global, config: &mut S, disk: &mut D) -> Result<Engine, End>
+    ensures opened { IfOk result (λ engine. (settings : Config) × HasSettings (S.source_state config.old) (S.source_state config.new) settings
+        × HasJournal settings (disk_state (D.history disk.old) (D.faults disk.old)) (disk_state (D.history disk.new) (D.faults disk.new)) engine) }
+    ensures unopened { IfErr result (λ end.
+        (LacksSettings (S.source_state config.old) (S.source_state config.new) end × (disk_state (D.history disk.new) (D.faults disk.new) ≡ disk_state (D.history disk.old) (D.faults disk.old)))
+        ⊎ ((settings : Config) × HasSettings (S.source_state config.old) (S.source_state config.new) settings
+        × LacksJournal (disk_state (D.history disk.old) (D.faults disk.old)) (disk_state (D.history disk.new) (D.faults disk.new)) end)) }
+{
+    let settings = read_settings(alloc, config)?;
+    match Engine::open(alloc, disk, settings) {
+        Ok(engine) => {
+            // this says that its world is good
+            engine.view();
+            Ok(engine)
+        }
+        Err(fault) => Err(End::of_open_fault(fault)),
     }
 }
 

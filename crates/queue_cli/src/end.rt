@@ -1,13 +1,13 @@
 //! How a run ends, and what is written last.
-ghost use Rattle.std.specs.Prelude.{◌≡◌, ◌≤◌, string_bytes, IfOk};
+ghost use Rattle.std.specs.Prelude.{◌≡◌, ◌≤◌, string_bytes, IfOk, OnOk, OnErr};
 ghost use Rattle.queue_cli.specs.Exec.{fault_end};
 ghost use Rattle.queue_cli.specs.ExitStatus as status;
 ghost use Rattle.queue_cli.specs.Journal.{open_end};
 ghost use Rattle.queue_cli.specs.LastText.{bad_record_line, not_a_journal_line, settings_line, version_line, Reports};
 ghost use Rattle.queue_cli.specs.Trace.{input_end};
 
-use crate::printing::print_line;
-use http_wire::{Refusal, WireFault, write_all, write_reply};
+use http_wire::{Refusal, WireFault, write_all, write_reply, write_two};
+use job_states::NoMemory;
 use journal_keeper::OpenFault;
 use queue_config::Key;
 use queue_http::fault_reply;
@@ -120,55 +120,42 @@ impl End {
         ensures reports { Reports (K.sink_state output.old) (K.sink_state output.new) self result }
         ensures count { (K.sink_state output.old).faults ≤ (K.sink_state output.new).faults }
     {
-        match &self {
+        match self.write_last(alloc, output) {
+            Ok(()) => self,
+            Err(NoMemory) => End::NoMemory,
+        }
+    }
+
+    // Writes the last text. `Err` says that there was no memory for it.
+    fn write_last<K: Sink>(&self, alloc: Global, output: &mut K) -> Result<(), NoMemory>
+        ensures reported { OnOk result (Reports (K.sink_state output.old) (K.sink_state output.new) self.now self.now) }
+        ensures unreported { OnErr result (Reports (K.sink_state output.old) (K.sink_state output.new) self.now End.NoMemory) }
+        ensures count { (K.sink_state output.old).faults ≤ (K.sink_state output.new).faults }
+    {
+        let _ = match self {
             End::BadInput { at, refusal } => {
-                let Ok(reply) = fault_reply(alloc, *at, *refusal) else {
-                    return End::NoMemory;
-                };
-                let _ = write_reply(output, &reply);
+                write_reply(output, &fault_reply(alloc, *at, *refusal)?)
             }
             End::BadLine { at } => {
-                let Ok(printed) = Printed::bad_line(alloc, *at) else {
-                    return End::NoMemory;
-                };
-                let _ = print_line(output, printed.as_slice());
+                write_two(output, Printed::bad_line(alloc, *at)?.as_slice(), b"\n")
             }
             End::BadSettings { number, key } => {
-                let Ok(line) = settings_line(alloc, *number, key.as_str()) else {
-                    return End::NoMemory;
-                };
-                let _ = write_all(output, line.as_bytes());
+                let line = settings_line(alloc, *number, key.as_str())?;
+                write_all(output, line.as_bytes())
             }
             End::NotAJournal { file } => {
-                let Ok(line) = not_a_journal_line(alloc, *file) else {
-                    return End::NoMemory;
-                };
-                let _ = write_all(output, line.as_bytes());
+                write_all(output, not_a_journal_line(alloc, *file)?.as_bytes())
             }
             End::JournalVersion { file, n } => {
-                let Ok(line) = version_line(alloc, *file, *n) else {
-                    return End::NoMemory;
-                };
-                let _ = write_all(output, line.as_bytes());
+                write_all(output, version_line(alloc, *file, *n)?.as_bytes())
             }
-            End::BadRecord { at } => {
-                let Ok(line) = bad_record_line(alloc, *at) else {
-                    return End::NoMemory;
-                };
-                let _ = write_all(output, line.as_bytes());
-            }
-            End::DiskFault => {
-                let _ = write_all(output, b"disk fault\n");
-            }
-            End::Usage => {
-                let _ = write_all(output, b"usage\n");
-            }
-            End::InputTooLong => {
-                let _ = write_all(output, b"input too long\n");
-            }
-            End::Done | End::ReadFault | End::WriteFault | End::NoMemory => {}
-        }
-        self
+            End::BadRecord { at } => write_all(output, bad_record_line(alloc, *at)?.as_bytes()),
+            End::DiskFault => write_all(output, b"disk fault\n"),
+            End::Usage => write_all(output, b"usage\n"),
+            End::InputTooLong => write_all(output, b"input too long\n"),
+            End::Done | End::ReadFault | End::WriteFault | End::NoMemory => Ok(()),
+        };
+        Ok(())
     }
 }
 

@@ -4,7 +4,6 @@
 mod command;
 mod end;
 mod exec;
-mod printing;
 mod settings;
 mod status;
 #[cfg(test)]

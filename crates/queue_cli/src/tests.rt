@@ -1,8 +1,9 @@
+ghost use Rattle.std.specs.Prelude.{◌<◌};
+
 use crate::run;
-use sq_outside::{MemClock, MemDisk, MemSink, MemSource, SureSource};
-use std::alloc::{AllocError, Global};
+use sq_outside::{MemClock, MemDisk, MemSink, MemSource, Source, SureSource};
+use std::alloc::Global;
 use std::process::Abort;
-use std::test::Fail;
 
 const SETTINGS: &str = r#"
 [[classes]]
@@ -210,17 +211,19 @@ const RECORD: [&[u8]; 3] = [
 ];
 
 /// The bytes of a method, a path and a body, with a blank between them.
-fn request_text(alloc: Global, row: &str) -> Result<String, Fail> {
-    let (method, rest) = row.split_once(" ").ok_or("no method")?;
-    let (path, body) = rest.split_once(" ").ok_or("no path")?;
+fn push_request(rt: &impl Abort, text: &mut String, row: &str) {
+    let (method, rest) = row.split_once(" ").expect(rt, row);
+    let (path, body) = rest.split_once(" ").expect(rt, row);
     let len = body.len();
-    Ok(format!(in alloc; "{method} {path} HTTP/1.1\r\nContent-Length: {len}\r\n\r\n{body}")?)
+    write!(
+        text,
+        "{method} {path} HTTP/1.1\r\nContent-Length: {len}\r\n\r\n{body}"
+    )
+    .expect(rt, row);
 }
 
-/// The bytes of a status and a body.
-fn reply_text(alloc: Global, row: &str) -> Result<String, Fail> {
-    let (status, body) = row.split_once(" ").ok_or("no status")?;
-    let reason = match status {
+fn reason(status: &str) -> &'static str {
+    match status {
         "200" => "OK",
         "201" => "Created",
         "400" => "Bad Request",
@@ -230,344 +233,339 @@ fn reply_text(alloc: Global, row: &str) -> Result<String, Fail> {
         "501" => "Not Implemented",
         "503" => "Service Unavailable",
         "507" => "Insufficient Storage",
-        _ => return Err("no reason".into()),
-    };
-    let len = body.len();
-    Ok(format!(in alloc;
+        _ => "no reason",
+    }
+}
+
+/// The bytes of a status and a body.
+fn push_reply(rt: &impl Abort, text: &mut String, row: &str) {
+    let (status, body) = row.split_once(" ").expect(rt, row);
+    let (reason, len) = (reason(status), body.len());
+    write!(
+        text,
         "HTTP/1.1 {status} {reason}\r\nContent-Type: application/json\r\nContent-Length: {len}\r\n\r\n{body}"
-    )?)
+    )
+    .expect(rt, row);
 }
 
-fn source(alloc: Global, text: &str) -> Result<SureSource, AllocError> {
-    Ok(SureSource::new(Vec::from_slice(alloc, text.as_bytes())?))
-}
-
-/// A source whose first read fails.
-fn failing(alloc: Global) -> Result<MemSource, AllocError> {
-    Ok(MemSource::new(Vec::new(alloc), vec![in alloc; 1]?))
+fn source(rt: &impl Abort, alloc: Global, text: &str) -> SureSource {
+    SureSource::new(Vec::from_slice(alloc, text.as_bytes()).expect(rt, "memory"))
 }
 
 /// A disk with this file 0, whose call of this number fails.
-fn disk_of(alloc: Global, file: Vec<u8>, fail: u64) -> Result<MemDisk, Fail> {
-    let files = [file, Vec::new(alloc)];
-    Ok(MemDisk::new(alloc, files, vec![in alloc; (fail, 0)]?)?)
+fn disk_of(rt: &impl Abort, alloc: Global, file: Vec<u8>, fail: u64) -> MemDisk {
+    let fail = vec![in alloc; (fail, 0)].expect(rt, "memory");
+    MemDisk::new(alloc, [file, Vec::new(alloc)], fail).expect(rt, "memory")
+}
+
+fn new_disk(rt: &impl Abort, alloc: Global) -> MemDisk {
+    disk_of(rt, alloc, Vec::new(alloc), 0)
 }
 
 /// The first bytes of the journal of one job, with this byte at the gate of its record.
-fn journal(alloc: Global, gate: u8, len: usize) -> Result<Vec<u8>, AllocError> {
-    let mut file = Vec::from_slice(alloc, HEADER)?;
-    file.push(gate)?;
+fn journal(rt: &impl Abort, alloc: Global, gate: u8, len: usize) -> Vec<u8> {
+    let mut file = Vec::from_slice(alloc, HEADER).expect(rt, "memory");
+    file.push(gate).expect(rt, "memory");
     for part in RECORD {
-        file.extend_from_slice(part)?;
+        file.extend_from_slice(part).expect(rt, "memory");
     }
     file.truncate(len);
-    Ok(file)
+    file
 }
 
-/// Runs a command at moment 1000 and later.
-fn command(
+/// Runs a command at moment 1000 and later, and answers its status.
+fn command<S: Source>(
+    rt: &impl Abort,
+    alloc: Global,
+    word: &str,
+    settings: &str,
+    input: &mut S,
+    sink: &mut MemSink,
+    disk: &mut MemDisk,
+) -> u8 {
+    let word = String::from_str(alloc, word).expect(rt, "memory");
+    let words = vec![in alloc; word].expect(rt, "memory");
+    let mut clock = MemClock::new(vec![in alloc; 1000, 1001, 1002].expect(rt, "memory"));
+    let mut settings = source(rt, alloc, settings);
+    run(alloc, &words, &mut settings, input, sink, disk, &mut clock)
+}
+
+/// Runs a command, which writes this and ends with this status.
+fn expect_run(
+    rt: &impl Abort,
     alloc: Global,
     word: &str,
     settings: &str,
     input: &str,
-    sink: &mut MemSink,
     disk: &mut MemDisk,
-) -> Result<u8, Fail> {
-    let words = vec![in alloc; String::from_str(alloc, word)?]?;
-    let mut clock = MemClock::new(vec![in alloc; 1000, 1001, 1002]?);
-    let mut settings = source(alloc, settings)?;
-    let mut input = source(alloc, input)?;
-    Ok(run(
-        alloc,
-        &words,
-        &mut settings,
-        &mut input,
-        sink,
-        disk,
-        &mut clock,
-    ))
+    status: u8,
+    expected: &str,
+) {
+    let mut sink = MemSink::new(alloc, Vec::new(alloc));
+    let mut input = source(rt, alloc, input);
+    let ended = command(rt, alloc, word, settings, &mut input, &mut sink, disk);
+    let written = str::from_utf8(sink.bytes()).expect(rt, "UTF-8");
+    assert_eq!(rt; written, expected);
+    assert_eq!(rt; ended, status);
+}
+
+/// The same on a new disk whose call of this number fails.
+fn expect_anew(
+    rt: &impl Abort,
+    alloc: Global,
+    word: &str,
+    settings: &str,
+    input: &str,
+    fail: u64,
+    status: u8,
+    expected: &str,
+) {
+    let mut disk = disk_of(rt, alloc, Vec::new(alloc), fail);
+    expect_run(
+        rt, alloc, word, settings, input, &mut disk, status, expected,
+    );
 }
 
 /// Runs `exec` over the requests of a session, which are answered as it says.
-fn answers<R: Abort>(
-    rt: &R,
-    alloc: Global,
-    settings: &str,
-    session: &str,
-    disk: &mut MemDisk,
-) -> Result<(), Fail> {
+fn answers(rt: &impl Abort, alloc: Global, settings: &str, session: &str, disk: &mut MemDisk) {
     let mut input = String::new(alloc);
     let mut expected = String::new(alloc);
     for row in session.lines() {
-        let (request, reply) = row.split_once(" => ").ok_or("no arrow")?;
-        input.push_str(&request_text(alloc, request)?)?;
-        expected.push_str(&reply_text(alloc, reply)?)?;
+        let (request, reply) = row.split_once(" => ").expect(rt, row);
+        push_request(rt, &mut input, request);
+        push_reply(rt, &mut expected, reply);
     }
-    let mut sink = MemSink::new(alloc, Vec::new(alloc));
-    let status = command(alloc, "exec", settings, &input, &mut sink, disk)?;
-    assert_eq!(rt; status, 0);
-    let written = str::from_utf8(sink.bytes())?;
-    assert_eq!(rt; written, expected.as_str());
-    Ok(())
+    expect_run(rt, alloc, "exec", settings, &input, disk, 0, &expected);
+}
+
+/// Runs `exec` over a session on a new disk.
+fn answers_anew(rt: &impl Abort, alloc: Global, settings: &str, session: &str) {
+    answers(rt, alloc, settings, session, &mut new_disk(rt, alloc));
+}
+
+/// Plays a trace on a new disk, which prints what its rows say.
+fn plays(rt: &impl Abort, alloc: Global, trace: &str) {
+    let mut lines = String::new(alloc);
+    let mut expected = String::new(alloc);
+    for row in trace.lines() {
+        let (line, printed) = row.split_once(" => ").expect(rt, row);
+        writeln!(lines, "{line}").expect(rt, row);
+        writeln!(expected, "{printed}").expect(rt, row);
+    }
+    expect_anew(rt, alloc, "trace", RULES, &lines, 0, 0, &expected);
 }
 
 /// What `status` prints where there are so many ready jobs and nothing else.
-fn ready_text(alloc: Global, ready: u64) -> Result<String, AllocError> {
+fn ready_text(rt: &impl Abort, alloc: Global, ready: u64) -> String {
     format!(in alloc;
         "scheduled 0\nready {ready}\nblocked 0\nclaimed 0\nfailed 0\nfinished 0\nprocesses 0\nsemaphores 0\n"
-    )
+    ).expect(rt, "memory")
 }
 
 #[test]
-fn sessions_are_answered_by_the_tables(rt: HostRuntime) -> Result<(), Fail> {
+fn sessions_are_answered_by_the_tables(rt: HostRuntime) {
     let alloc = rt.alloc();
-    let small = format!(in alloc; "[jobs]\nkept_max = 1\n{SETTINGS}")?;
-    for (settings, session) in [
-        (SETTINGS, QUEUES),
-        (SETTINGS, CLAIMS),
-        (small.as_str(), FULL),
-        (SETTINGS, BLOCKED),
-        (SETTINGS, DISCARDED),
-    ] {
-        let mut disk = disk_of(alloc, Vec::new(alloc), 0)?;
-        answers(&rt, alloc, settings, session, &mut disk)?;
-    }
-    Ok(())
+    let small = format!(in alloc; "[jobs]\nkept_max = 1\n{SETTINGS}").expect(&rt, "memory");
+    answers_anew(&rt, alloc, SETTINGS, QUEUES);
+    answers_anew(&rt, alloc, SETTINGS, CLAIMS);
+    answers_anew(&rt, alloc, &small, FULL);
+    answers_anew(&rt, alloc, SETTINGS, BLOCKED);
+    answers_anew(&rt, alloc, SETTINGS, DISCARDED);
+}
+
+/// Two runs over a disk whose call of this number fails. Between them there is one ready job.
+fn outlasts(rt: &impl Abort, alloc: Global, fail: u64, runs: [&str; 2]) {
+    let [before, after] = runs;
+    let mut disk = disk_of(rt, alloc, Vec::new(alloc), fail);
+    answers(rt, alloc, SETTINGS, before, &mut disk);
+    let ready = ready_text(rt, alloc, 1);
+    expect_run(rt, alloc, "status", SETTINGS, "", &mut disk, 0, &ready);
+    answers(rt, alloc, SETTINGS, after, &mut disk);
 }
 
 #[test]
-fn jobs_outlast_the_run(rt: HostRuntime) -> Result<(), Fail> {
+fn jobs_outlast_the_run(rt: HostRuntime) {
     let alloc = rt.alloc();
+    outlasts(&rt, alloc, 0, KEPT);
     // the eighteenth call of the disk syncs the gate of the first record, once it is open
-    for (fail, [before, after]) in [(0, KEPT), (18, LOST)] {
-        let mut disk = disk_of(alloc, Vec::new(alloc), fail)?;
-        answers(&rt, alloc, SETTINGS, before, &mut disk)?;
-        let mut sink = MemSink::new(alloc, Vec::new(alloc));
-        let status = command(alloc, "status", SETTINGS, "", &mut sink, &mut disk)?;
-        let written = str::from_utf8(sink.bytes())?;
-        assert_eq!(rt; (status, written), (0, ready_text(alloc, 1)?.as_str()));
-        answers(&rt, alloc, SETTINGS, after, &mut disk)?;
-    }
-    Ok(())
+    outlasts(&rt, alloc, 18, LOST);
+}
+
+/// After a session on a new disk file 0 is so many bytes of the journal of one job.
+fn leaves(rt: &impl Abort, alloc: Global, session: &str, gate: u8, len: usize) {
+    let mut disk = new_disk(rt, alloc);
+    answers(rt, alloc, SETTINGS, session, &mut disk);
+    assert_eq!(rt; disk.bytes(0), journal(rt, alloc, gate, len).as_slice());
 }
 
 #[test]
-fn the_journal_has_the_bytes_of_its_format(rt: HostRuntime) -> Result<(), Fail> {
-    let alloc = rt.alloc();
-    let enqueue = r#"POST /jobs {"job_class":"A","job_id":"j1"} => 201 {"id":1,"state":"ready"}"#;
-    for (session, gate, len) in [("", 0, 17), (enqueue, b'R', 99)] {
-        let mut disk = disk_of(alloc, Vec::new(alloc), 0)?;
-        answers(&rt, alloc, SETTINGS, session, &mut disk)?;
-        assert_eq!(rt; disk.bytes(0), journal(alloc, gate, len)?.as_slice());
-    }
-    Ok(())
+fn the_journal_has_the_bytes_of_its_format(rt: HostRuntime) {
+    const ENQUEUE: &str =
+        r#"POST /jobs {"job_class":"A","job_id":"j1"} => 201 {"id":1,"state":"ready"}"#;
+    leaves(&rt, rt.alloc(), "", 0, 17);
+    leaves(&rt, rt.alloc(), ENQUEUE, b'R', 99);
+}
+
+/// What `status` writes over this file 0, and how it ends.
+fn expect_status(rt: &impl Abort, alloc: Global, file: Vec<u8>, status: u8, expected: &str) {
+    let mut disk = disk_of(rt, alloc, file, 0);
+    expect_run(
+        rt, alloc, "status", SETTINGS, "", &mut disk, status, expected,
+    );
 }
 
 #[test]
-fn status_tells_what_an_opening_finds(rt: HostRuntime) -> Result<(), Fail> {
+fn status_tells_what_an_opening_finds(rt: HostRuntime) {
     let alloc = rt.alloc();
-    let hello = Vec::from_slice(alloc, b"hello journal world!")?;
-    for (file, status, written) in [
-        (journal(alloc, b'R', 99)?, 0, ready_text(alloc, 1)?),
-        (journal(alloc, 0, 99)?, 0, ready_text(alloc, 0)?),
-        (journal(alloc, b'R', 98)?, 0, ready_text(alloc, 1)?),
-        (
-            journal(alloc, b'R', 97)?,
-            8,
-            String::from_str(alloc, "journal bad record at 16\n")?,
-        ),
-        (
-            hello,
-            8,
-            String::from_str(alloc, "journal not a journal in file 0\n")?,
-        ),
-    ] {
-        let mut disk = disk_of(alloc, file, 0)?;
-        let mut sink = MemSink::new(alloc, Vec::new(alloc));
-        let ended = command(alloc, "status", SETTINGS, "", &mut sink, &mut disk)?;
-        assert_eq!(rt; ended, status);
-        assert_eq!(rt; sink.bytes(), written.as_bytes());
-    }
-    Ok(())
+    let (none, one) = (ready_text(&rt, alloc, 0), ready_text(&rt, alloc, 1));
+    expect_status(&rt, alloc, journal(&rt, alloc, b'R', 99), 0, &one);
+    expect_status(&rt, alloc, journal(&rt, alloc, 0, 99), 0, &none);
+    expect_status(&rt, alloc, journal(&rt, alloc, b'R', 98), 0, &one);
+    let cut = journal(&rt, alloc, b'R', 97);
+    expect_status(&rt, alloc, cut, 8, "journal bad record at 16\n");
+    let hello = Vec::from_slice(alloc, b"hello journal world!").expect(&rt, "memory");
+    expect_status(&rt, alloc, hello, 8, "journal not a journal in file 0\n");
 }
 
 #[test]
-fn each_run_ends_with_its_status(rt: HostRuntime) -> Result<(), Fail> {
-    const CUT: &str =
-        "HTTP/1.1 400 Bad Request\r\nContent-Type: application/json\r\nContent-Length: 30\r\n\r\n{\"at\":0,\"error\":\"bad_request\"}";
+fn each_run_ends_with_its_status(rt: HostRuntime) {
+    const BAD: &str = "[[classes]]\ncolour = 1\n";
     let alloc = rt.alloc();
-    for (settings, fail, input, status, written) in [
-        (SETTINGS, 0, "", 0, ""),
-        (SETTINGS, 0, "GET / HTTP/1.1\r\n", 1, CUT),
-        (
-            "[[classes]]\ncolour = 1\n",
-            0,
-            "",
-            3,
-            "settings 2 classes[0].colour\n",
-        ),
-        (SETTINGS, 1, "", 6, "disk fault\n"),
-    ] {
-        let mut disk = disk_of(alloc, Vec::new(alloc), fail)?;
-        let mut sink = MemSink::new(alloc, Vec::new(alloc));
-        let ended = command(alloc, "exec", settings, input, &mut sink, &mut disk)?;
-        assert_eq!(rt; ended, status);
-        assert_eq!(rt; sink.bytes(), written.as_bytes());
-    }
+    let mut cut = String::new(alloc);
+    push_reply(&rt, &mut cut, r#"400 {"at":0,"error":"bad_request"}"#);
+    let open = "GET / HTTP/1.1\r\n";
+    let refused = "settings 2 classes[0].colour\n";
+    expect_anew(&rt, alloc, "exec", SETTINGS, "", 0, 0, "");
+    expect_anew(&rt, alloc, "exec", SETTINGS, open, 0, 1, &cut);
+    expect_anew(&rt, alloc, "exec", BAD, "", 0, 3, refused);
+    expect_anew(&rt, alloc, "exec", SETTINGS, "", 1, 6, "disk fault\n");
+}
 
-    let mut disk = disk_of(alloc, Vec::new(alloc), 0)?;
-    let mut full = MemSink::new(alloc, vec![in alloc; 1]?);
-    let get = "GET / HTTP/1.1\r\n\r\n";
-    let ended = command(alloc, "exec", SETTINGS, get, &mut full, &mut disk)?;
+#[test]
+fn a_stream_that_fails_ends_the_run(rt: HostRuntime) {
+    let alloc = rt.alloc();
+    let mut disk = new_disk(&rt, alloc);
+    let mut full = MemSink::new(alloc, vec![in alloc; 1].expect(&rt, "memory"));
+    let mut get = source(&rt, alloc, "GET / HTTP/1.1\r\n\r\n");
+    let ended = command(&rt, alloc, "exec", SETTINGS, &mut get, &mut full, &mut disk);
     assert_eq!(rt; ended, 5);
-
-    let mut clock = MemClock::new(Vec::new(alloc));
     let mut sink = MemSink::new(alloc, Vec::new(alloc));
     for (word, status) in [("exec", 4), ("Exec", 2)] {
-        let words = vec![in alloc; String::from_str(alloc, word)?]?;
-        let mut settings = source(alloc, SETTINGS)?;
-        let mut input = failing(alloc)?;
-        assert_eq!(rt;
-            run(
-                alloc,
-                &words,
-                &mut settings,
-                &mut input,
-                &mut sink,
-                &mut disk,
-                &mut clock
-            ),
-            status
-        );
+        let fail = vec![in alloc; 1].expect(&rt, "memory");
+        let mut input = MemSource::new(Vec::new(alloc), fail);
+        let ended = command(&rt, alloc, word, SETTINGS, &mut input, &mut sink, &mut disk);
+        assert_eq!(rt; ended, status);
     }
     assert_eq!(rt; sink.bytes(), b"usage\n".as_slice());
-    Ok(())
-}
-
-/// Plays a trace, which prints what is expected.
-fn prints<R: Abort>(rt: &R, alloc: Global, lines: &str, expected: &str) -> Result<(), Fail> {
-    let mut disk = disk_of(alloc, Vec::new(alloc), 0)?;
-    let mut sink = MemSink::new(alloc, Vec::new(alloc));
-    let status = command(alloc, "trace", RULES, lines, &mut sink, &mut disk)?;
-    let written = str::from_utf8(sink.bytes())?;
-    assert_eq!(rt; written, expected);
-    assert_eq!(rt; status, 0);
-    Ok(())
 }
 
 #[test]
-fn traces_are_played_by_the_tables(rt: HostRuntime) -> Result<(), Fail> {
-    let alloc = rt.alloc();
+fn traces_are_played_by_the_tables(rt: HostRuntime) {
     for trace in TRACES {
-        let mut lines = String::new(alloc);
-        let mut expected = String::new(alloc);
-        for row in trace.lines() {
-            let (line, printed) = row.split_once(" => ").ok_or("no arrow")?;
-            writeln!(&mut lines, "{line}")?;
-            writeln!(&mut expected, "{printed}")?;
-        }
-        prints(&rt, alloc, &lines, &expected)?;
+        plays(&rt, rt.alloc(), trace);
     }
-    Ok(())
+}
+
+/// The row of a seat's commit, which claims the hundred jobs after those of the seats before it.
+fn push_claims(rt: &impl Abort, trace: &mut String, seat: u64)
+    requires { seat < 3 }
+{
+    write!(trace, r#"{seat} commit => {{"ids":["#).expect(rt, "memory");
+    for place in 1..101_u64 {
+        let id = 100 * seat + place;
+        let end = if place < 100 { "," } else { "]}\n" };
+        write!(trace, "{id}{end}").expect(rt, "memory");
+    }
 }
 
 /// A process that has 500 claims, with those of two seats that are open, may claim no more.
 #[test]
-fn open_polls_count_as_claims(rt: HostRuntime) -> Result<(), Fail> {
-    let alloc = rt.alloc();
-    let mut lines = String::new(alloc);
-    let mut expected = String::new(alloc);
+fn open_polls_count_as_claims(rt: HostRuntime) {
+    let mut trace = String::new(rt.alloc());
     for id in 1..502_u64 {
-        writeln!(&mut lines, "@0 0 do enqueue A q 0 - -")?;
-        writeln!(&mut expected, "{{\"id\":{id},\"state\":\"ready\"}}")?;
+        writeln!(
+            trace,
+            r#"@0 0 do enqueue A q 0 - - => {{"id":{id},"state":"ready"}}"#
+        )
+        .expect(&rt, "memory");
     }
-    writeln!(&mut lines, "@0 0 do register worker w")?;
-    writeln!(&mut expected, "{{\"pid\":1}}")?;
+    writeln!(trace, r#"@0 0 do register worker w => {{"pid":1}}"#).expect(&rt, "memory");
     for seat in 0..5_u64 {
-        writeln!(&mut lines, "@1 {seat} begin poll 1 100 *")?;
-        writeln!(&mut expected, "open")?;
+        writeln!(trace, "@1 {seat} begin poll 1 100 * => open").expect(&rt, "memory");
     }
     for seat in 0..3_u64 {
-        writeln!(&mut lines, "{seat} commit")?;
-        expected.push_str("{\"ids\":[")?;
-        for place in 1..101_u64 {
-            let id = 100 * seat + place;
-            write!(&mut expected, "{id}")?;
-            expected.push_str(if place < 100 { "," } else { "]}\n" })?;
-        }
+        push_claims(&rt, &mut trace, seat);
     }
-    writeln!(&mut lines, "@1 5 do poll 1 1 *")?;
     writeln!(
-        &mut expected,
-        "{{\"error\":\"claim_limit\",\"held\":500,\"pid\":1}}"
-    )?;
-    prints(&rt, alloc, &lines, &expected)
+        trace,
+        r#"@1 5 do poll 1 1 * => {{"error":"claim_limit","held":500,"pid":1}}"#
+    )
+    .expect(&rt, "memory");
+    plays(&rt, rt.alloc(), &trace);
+}
+
+/// The rows of a round in which each seat enqueues a job, but for one that rolls back.
+fn push_enqueues(rt: &impl Abort, trace: &mut String, round: u64)
+    requires { round < 8 }
+{
+    for seat in 0..8_u64 {
+        writeln!(trace, "@{round} {seat} begin enqueue A q 0 - - => open").expect(rt, "memory");
+    }
+    for turn in 0..8_u64 {
+        let seat = (3 * turn + round) % 8;
+        let id = 8 * round + seat + 1;
+        let row = if seat == round {
+            writeln!(trace, "{seat} rollback => rolled back")
+        } else {
+            writeln!(trace, r#"{seat} commit => {{"id":{id},"state":"ready"}}"#)
+        };
+        row.expect(rt, "memory");
+    }
+}
+
+/// The rows of a round in which each seat claims a job and is done with it. Of each eight numbers in turn the one of the seat
+/// that rolled back is missing.
+fn push_polls(rt: &impl Abort, trace: &mut String, round: u64)
+    requires { round < 7 }
+{
+    for seat in 0..8_u64 {
+        writeln!(trace, "@9 {seat} begin poll 1 1 * => open").expect(rt, "memory");
+    }
+    for turn in 0..8_u64 {
+        let seat = (5 * turn + round) % 8;
+        let place = 8 * round + seat;
+        let (block, offset) = (place / 7, place % 7);
+        let id = 8 * block + offset + if offset < block { 1 } else { 2 };
+        writeln!(trace, r#"{seat} commit => {{"ids":[{id}]}}"#).expect(rt, "memory");
+        writeln!(
+            trace,
+            r#"@10 {seat} do done 1 {id} => {{"id":{id},"state":"finished","unblocked":null}}"#
+        )
+        .expect(rt, "memory");
+    }
 }
 
 /// Eight seats open their transactions side by side and end them in another order. Numbers are given at the begin, and a poll
 /// leaves out what is held; a rollback lets go, and loses its number.
 #[test]
-fn eight_seats_take_turns(rt: HostRuntime) -> Result<(), Fail> {
-    let alloc = rt.alloc();
-    let mut lines = String::new(alloc);
-    let mut expected = String::new(alloc);
+fn eight_seats_take_turns(rt: HostRuntime) {
+    let mut trace = String::new(rt.alloc());
     for round in 0..8_u64 {
-        for seat in 0..8_u64 {
-            writeln!(&mut lines, "@{round} {seat} begin enqueue A q 0 - -")?;
-            writeln!(&mut expected, "open")?;
-        }
-        for turn in 0..8_u64 {
-            let seat = (3 * turn + round) % 8;
-            let id = 8 * round + seat + 1;
-            if seat == round {
-                writeln!(&mut lines, "{seat} rollback")?;
-                writeln!(&mut expected, "rolled back")?;
-            } else {
-                writeln!(&mut lines, "{seat} commit")?;
-                writeln!(&mut expected, "{{\"id\":{id},\"state\":\"ready\"}}")?;
-            }
-        }
+        push_enqueues(&rt, &mut trace, round);
     }
-    writeln!(&mut lines, "@8 0 do register worker w")?;
-    writeln!(&mut expected, "{{\"pid\":1}}")?;
-    // of each eight numbers in turn the one of the seat that is the round's is missing
+    writeln!(trace, r#"@8 0 do register worker w => {{"pid":1}}"#).expect(&rt, "memory");
     for round in 0..7_u64 {
-        for seat in 0..8_u64 {
-            writeln!(&mut lines, "@9 {seat} begin poll 1 1 *")?;
-            writeln!(&mut expected, "open")?;
-        }
-        for turn in 0..8_u64 {
-            let seat = (5 * turn + round) % 8;
-            let place = 8 * round + seat;
-            let (block, offset) = (place / 7, place % 7);
-            let id = 8 * block + offset + if offset < block { 1 } else { 2 };
-            writeln!(&mut lines, "{seat} commit")?;
-            writeln!(&mut expected, "{{\"ids\":[{id}]}}")?;
-            writeln!(&mut lines, "@10 {seat} do done 1 {id}")?;
-            writeln!(
-                &mut expected,
-                "{{\"id\":{id},\"state\":\"finished\",\"unblocked\":null}}"
-            )?;
-        }
+        push_polls(&rt, &mut trace, round);
     }
-    prints(&rt, alloc, &lines, &expected)
+    plays(&rt, rt.alloc(), &trace);
 }
 
 #[test]
-fn a_bad_line_ends_a_trace(rt: HostRuntime) -> Result<(), Fail> {
+fn a_bad_line_ends_a_trace(rt: HostRuntime) {
     let alloc = rt.alloc();
-    for (lines, printed) in [
-        (
-            "0 commit\n0  commit\n0 commit\n",
-            "{\"error\":\"seat_empty\"}\n{\"at\":9,\"error\":\"bad_line\"}\n",
-        ),
-        ("0 commit", "{\"at\":0,\"error\":\"bad_line\"}\n"),
-    ] {
-        let mut disk = disk_of(alloc, Vec::new(alloc), 0)?;
-        let mut sink = MemSink::new(alloc, Vec::new(alloc));
-        let status = command(alloc, "trace", RULES, lines, &mut sink, &mut disk)?;
-        assert_eq!(rt; sink.bytes(), printed.as_bytes());
-        assert_eq!(rt; status, 1);
-    }
-    Ok(())
+    let lines = "0 commit\n0  commit\n0 commit\n";
+    let second = "{\"error\":\"seat_empty\"}\n{\"at\":9,\"error\":\"bad_line\"}\n";
+    let first = "{\"at\":0,\"error\":\"bad_line\"}\n";
+    expect_anew(&rt, alloc, "trace", RULES, lines, 0, 1, second);
+    expect_anew(&rt, alloc, "trace", RULES, "0 commit", 0, 1, first);
 }

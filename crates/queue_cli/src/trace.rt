@@ -7,7 +7,7 @@ ghost use Rattle.queue_cli.specs.Answering.{session, AnswersFrom};
 ghost use Rattle.queue_cli.specs.Trace.{lines};
 
 use crate::End;
-use crate::printing::print_line;
+use http_wire::write_two;
 use queue_engine::Engine;
 use queue_trace::perform;
 use situation_model::worlds_are_replays;
@@ -34,7 +34,7 @@ pub(crate) fn trace<S: Source, K: Sink, D: Disk>(
         match lines.next(alloc, input) {
             Ok(Some(line)) => {
                 let printed = perform(alloc, engine, disk, line);
-                if print_line(output, printed.as_slice()).is_err() {
+                if write_two(output, printed.as_slice(), b"\n").is_err() {
                     return End::WriteFault;
                 }
             }

@@ -40,18 +40,18 @@ returns-then-is_err g c = λ moments.
     let next = line_exchanged c.worlds_are_replays.ensures c.trace.engine on.doubt moments old exchange c.perform-printed.new.engine new
     c.perform-printed.ensures.performs on.stands c.perform-printed.ensures.good.situation.book.world c.perform-printed.ensures.faults in
     let takes = rw c.in-Ok-Some.field-0-is at c.in-Ok-Some.ensures in
-    let err : is_err c.print_line.result ≡ true = sym c.is_err.ensures.value ∙ c.if-is_err.true in
-    let P : List ℕ → Type 0 = λ text. AppendsPrefix (g.K.Sink.sink_state c.trace.output).written (g.K.Sink.sink_state c.print_line.new.sink).written (printed_line text) in
+    let err : is_err c.write_two.result ≡ true = sym c.is_err.ensures.value ∙ c.if-is_err.true in
+    let P : List ℕ → Type 0 = λ text. AppendsPrefix (g.K.Sink.sink_state c.trace.output).written (g.K.Sink.sink_state c.write_two.new.sink).written (printed_line text) in
     unwritten_on lines lines_one_way _ _ _ _ _ _ _ _ _ on exchange _ _ _ _ (takes_line _ _ _ _ _ takes) next
-    (subst P c.as_slice.ensures (err_known c.print_line.result _ err c.print_line.ensures.prefix)) (err_known c.print_line.result _ err c.print_line.ensures.cause)
+    (subst P c.as_slice.ensures (err_known c.write_two.result _ err c.write_two.ensures.prefix)) (err_known c.write_two.result _ err c.write_two.ensures.cause)
 
 -- with a printed text that is let go, and without
 
 pub trace-preserved : goal.trace-preserved
 trace-preserved g c =
     let takes = rw c.in-Ok-Some.field-0-is at c.in-Ok-Some.ensures in
-    let ok : is_err c.print_line.result ≡ false = sym c.is_err.ensures.value ∙ c.if-is_err.false in
-    let P : List ℕ → Type 0 = λ text. Appends (g.K.Sink.sink_state c.trace.output).written (g.K.Sink.sink_state c.print_line.new.sink).written (printed_line text) in
+    let ok : is_err c.write_two.result ≡ false = sym c.is_err.ensures.value ∙ c.if-is_err.false in
+    let P : List ℕ → Type 0 = λ text. Appends (g.K.Sink.sink_state c.trace.output).written (g.K.Sink.sink_state c.write_two.new.sink).written (printed_line text) in
     record {
       within = (let within = takes.within in omega (arith, within));
       on = λ moments. (
@@ -62,15 +62,15 @@ trace-preserved g c =
           let next = line_exchanged c.worlds_are_replays.ensures c.trace.engine on.doubt moments old exchange c.perform-printed.new.engine new
           c.perform-printed.ensures.performs on.stands c.perform-printed.ensures.good.situation.book.world c.perform-printed.ensures.faults in
           written_on lines lines_one_way _ _ _ _ _ _ _ _ _ on exchange _ _ _ _ (takes_line _ _ _ _ _ takes) next
-          (subst P c.as_slice.ensures (ok_known c.print_line.result _ ok c.print_line.ensures.whole)) c.print_line.ensures.count
+          (subst P c.as_slice.ensures (ok_known c.write_two.result _ ok c.write_two.ensures.whole)) c.write_two.ensures.count
           );
     }
 
 pub trace-preserved-else-is_err : goal.trace-preserved-else-is_err
 trace-preserved-else-is_err g c =
     let takes = rw c.in-Ok-Some.field-0-is at c.in-Ok-Some.ensures in
-    let ok : is_err c.print_line.result ≡ false = sym c.is_err.ensures.value ∙ c.if-is_err.false in
-    let P : List ℕ → Type 0 = λ text. Appends (g.K.Sink.sink_state c.trace.output).written (g.K.Sink.sink_state c.print_line.new.sink).written (printed_line text) in
+    let ok : is_err c.write_two.result ≡ false = sym c.is_err.ensures.value ∙ c.if-is_err.false in
+    let P : List ℕ → Type 0 = λ text. Appends (g.K.Sink.sink_state c.trace.output).written (g.K.Sink.sink_state c.write_two.new.sink).written (printed_line text) in
     record {
       within = (let within = takes.within in omega (arith, within));
       on = λ moments. (
@@ -81,7 +81,7 @@ trace-preserved-else-is_err g c =
           let next = line_exchanged c.worlds_are_replays.ensures c.trace.engine on.doubt moments old exchange c.perform-printed.new.engine new
           c.perform-printed.ensures.performs on.stands c.perform-printed.ensures.good.situation.book.world c.perform-printed.ensures.faults in
           written_on lines lines_one_way _ _ _ _ _ _ _ _ _ on exchange _ _ _ _ (takes_line _ _ _ _ _ takes) next
-          (subst P c.as_slice.ensures (ok_known c.print_line.result _ ok c.print_line.ensures.whole)) c.print_line.ensures.count
+          (subst P c.as_slice.ensures (ok_known c.write_two.result _ ok c.write_two.ensures.whole)) c.write_two.ensures.count
           );
     }
 
