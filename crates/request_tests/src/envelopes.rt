@@ -1,39 +1,46 @@
 use crate::tables::{row, same};
 use job_envelope::{Envelope, EnvelopeFault};
-use job_states::{Arg, NewJob};
+use job_states::{Arg, Bytes, NewJob};
 use serde_json::Value;
-use std::alloc::{AllocError, Global};
+use std::alloc::Global;
 use std::fmt::Write;
 use std::process::Abort;
 
-/// The fault, or class, id, queue, priority, executions, counts, moment and arguments.
-fn shown(alloc: Global, outcome: &Result<NewJob, EnvelopeFault>) -> Result<String, AllocError> {
-    let job = match outcome {
-        Ok(job) => job,
-        Err(fault) => return format!(in alloc; "{fault}"),
+fn write_arg(rt: &impl Abort, text: &mut String, arg: &Arg) {
+    let written = match arg {
+        Arg::Null => write!(text, " null"),
+        Arg::Text(words) => write!(text, " '{}'", words.as_str()),
+        Arg::Whole(n) => write!(text, " {n}"),
+        Arg::Other => write!(text, " other"),
     };
-    let (class, id, queue) = (
-        job.class.as_str(),
-        job.active_id.as_str(),
-        job.queue.as_str(),
+    written.expect(rt, "memory");
+}
+
+/// Class, id, queue, priority, executions, counts, moment and arguments.
+fn shown_job(rt: &impl Abort, alloc: Global, job: &NewJob) -> String {
+    let (class, id) = (job.class.as_str(), job.active_id.as_str());
+    let (queue, priority, executions) = (job.queue.as_str(), job.priority, job.executions);
+    let mut text = format!(in alloc; "{class} {id} {queue} {priority} {executions}").expect(
+        rt, "memory",
     );
-    let (priority, executions) = (job.priority, job.executions);
-    let mut text = format!(in alloc; "{class} {id} {queue} {priority} {executions}")?;
     for counted in job.counts.as_slice() {
-        write!(text, " {}={}", counted.list.as_str(), counted.count)?;
+        write!(text, " {}={}", counted.list.as_str(), counted.count).expect(rt, "memory");
     }
     if let Some(moment) = job.at {
-        write!(text, " @{moment}")?;
+        write!(text, " @{moment}").expect(rt, "memory");
     }
     for arg in job.args.as_slice() {
-        match arg {
-            Arg::Null => write!(text, " null")?,
-            Arg::Text(s) => write!(text, " '{}'", s.as_str())?,
-            Arg::Whole(n) => write!(text, " {n}")?,
-            Arg::Other => write!(text, " other")?,
-        }
+        write_arg(rt, &mut text, arg);
     }
-    Ok(text)
+    text
+}
+
+/// The job, or the fault.
+fn shown(rt: &impl Abort, alloc: Global, outcome: &Result<NewJob, EnvelopeFault>) -> String {
+    match outcome {
+        Ok(job) => shown_job(rt, alloc, job),
+        Err(fault) => format!(in alloc; "{fault}").expect(rt, "memory"),
+    }
 }
 
 /// A body, ` => `, and what is shown of it.
@@ -67,11 +74,21 @@ const BODIES: &str =
 {"job_class":"A","job_id":"1","scheduled_at":"2026-03-06T24:00:00Z"} => scheduled_at is no instant from 1970 to 9998
 {"job_class":"A","job_id":"1","scheduled_at":"2026-03-06T00:00:00.0000000001Z"} => scheduled_at is no instant from 1970 to 9998"#;
 
+fn expect_shown(
+    rt: &impl Abort,
+    alloc: Global,
+    outcome: &Result<NewJob, EnvelopeFault>,
+    expected: &str,
+    of: &str,
+) {
+    let found = shown(rt, alloc, outcome);
+    same(rt, found.as_str(), expected, of);
+}
+
 /// What is read of a body.
 fn expect(rt: &impl Abort, alloc: Global, body: &str, expected: &str) {
     let outcome = Envelope::read(alloc, body.as_bytes());
-    let found = shown(alloc, &outcome).expect(rt, "memory");
-    same(rt, found.as_str(), expected, expected);
+    expect_shown(rt, alloc, &outcome, expected, body);
 }
 
 #[test]
@@ -82,38 +99,47 @@ fn envelopes_are_read_by_the_table(rt: HostRuntime) {
     }
 }
 
-#[test]
-fn an_envelope_has_at_most_8192_bytes(rt: HostRuntime) {
-    let alloc = rt.alloc();
-    let blanks = " ".repeat(alloc, 8162).expect(&rt, "memory");
+/// What is read of a body of 30 bytes and so many blanks.
+fn expect_blanks(rt: &impl Abort, alloc: Global, count: usize, expected: &str) {
+    let blanks = " ".repeat(alloc, count).expect(rt, "memory");
     let body = format!(in alloc; r#"{{"job_class":"A","job_id":"1"}}{blanks}"#).expect(
-        &rt, "memory",
+        rt, "memory",
     );
-    expect(&rt, alloc, body.as_str(), "A 1 default 0 0");
-    let longer = format!(in alloc; " {body}").expect(&rt, "memory");
-    let refused = "8193 bytes are too many for an envelope";
-    expect(&rt, alloc, longer.as_str(), refused);
+    expect(rt, alloc, body.as_str(), expected);
 }
 
-/// What is written for the job of the body below, with other arguments.
+#[test]
+fn an_envelope_has_at_most_8192_bytes(rt: HostRuntime) {
+    let refused = "8193 bytes are too many for an envelope";
+    expect_blanks(&rt, rt.alloc(), 8162, "A 1 default 0 0");
+    expect_blanks(&rt, rt.alloc(), 8163, refused);
+}
+
+/// A job's body, other arguments, and what is written for the job with these.
+const BODY: &[u8] =
+    br#"{"job_class":"A","job_id":"1","queue_name":"low","priority":-1,"executions":2,"exception_executions":{"[B]":3},"scheduled_at":"2026-03-06T00:00:00.000001Z"}"#;
+
+const ARGUMENTS: &str = r#"["x", {"_aj_globalid": "gid://app/User/1"}]"#;
+
 const WRITTEN: &str =
     r#"{"arguments":["x",{"_aj_globalid":"gid://app/User/1"}],"enqueued_at":null,"exception_executions":{"[B]":3},"executions":2,"job_class":"A","job_id":"1","locale":null,"priority":-1,"provider_job_id":null,"queue_name":"low","scheduled_at":"2026-03-06T00:00:00.000001Z","timezone":null}"#;
 
+fn written(rt: &impl Abort, alloc: Global) -> Bytes {
+    let job = Envelope::read(alloc, BODY).expect(rt, "a job");
+    let args = Value::from_str(alloc, ARGUMENTS).expect(rt, "a value");
+    Envelope::write(alloc, &job, &args).expect(rt, "an envelope")
+}
+
+fn expect_value(rt: &impl Abort, alloc: Global, text: &[u8], expected: &str) {
+    let value = Value::from_slice(alloc, text).expect(rt, "a value");
+    let outcome = Envelope::read_value(alloc, &value);
+    expect_shown(rt, alloc, &outcome, expected, "a value");
+}
+
 #[test]
 fn an_envelope_is_written_and_read_as_a_value(rt: HostRuntime) {
-    let alloc = rt.alloc();
-    let body =
-        br#"{"job_class":"A","job_id":"1","queue_name":"low","priority":-1,"executions":2,"exception_executions":{"[B]":3},"scheduled_at":"2026-03-06T00:00:00.000001Z"}"#;
-    let job = Envelope::read(alloc, body).expect(&rt, "a job");
-    let args = Value::from_str(alloc, r#"["x", {"_aj_globalid": "gid://app/User/1"}]"#).expect(
-        &rt, "a value",
-    );
-    let text = Envelope::write(alloc, &job, &args).expect(&rt, "an envelope");
+    let text = written(&rt, rt.alloc());
     assert_eq!(rt; text.as_slice(), WRITTEN.as_bytes());
-
-    let value = Value::from_slice(alloc, text.as_slice()).expect(&rt, "a value");
-    let again = Envelope::read_value(alloc, &value);
-    let found = shown(alloc, &again).expect(&rt, "memory");
     let expected = "A 1 low -1 2 [B]=3 @1772755200000001 'x' other";
-    same(&rt, found.as_str(), expected, expected);
+    expect_value(&rt, rt.alloc(), text.as_slice(), expected);
 }

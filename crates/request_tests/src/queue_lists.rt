@@ -1,6 +1,6 @@
 ghost use Rattle.queue_selector.specs.Groups.{AreSorted};
 
-use crate::tables::{row, same};
+use crate::tables::{name, row, same, text};
 use job_states::{List, Name, Text};
 use queue_selector::QueueList;
 use std::alloc::Global;
@@ -9,8 +9,7 @@ use std::process::Abort;
 fn texts(rt: &impl Abort, alloc: Global, words: &str) -> Vec<Text> {
     let mut texts = Vec::new(alloc);
     for word in words.split(' ') {
-        let text = Text::read(alloc, word).expect(rt, "memory");
-        texts.push(text).expect(rt, "memory");
+        texts.push(text(rt, alloc, word)).expect(rt, "memory");
     }
     texts
 }
@@ -20,8 +19,7 @@ fn names(rt: &impl Abort, alloc: Global, words: &str) -> Vec<Name>
 {
     let mut names = Vec::new(alloc);
     for word in words.split_whitespace() {
-        let name = Name::read(alloc, word).expect(rt, word);
-        names.push(name).expect(rt, "memory");
+        names.push(name(rt, alloc, word)).expect(rt, "memory");
     }
     names.sort_unstable();
     names.dedup();
@@ -56,9 +54,10 @@ fn queues_are_grouped_in_the_order_of_the_list(rt: HostRuntime) {
 }
 
 fn expect(rt: &impl Abort, alloc: Global, items: &str, expected: &str) {
-    let said = match QueueList::parse(alloc, &texts(rt, alloc, items)) {
-        Ok(_) => String::from_str(alloc, "accepted"),
-        Err(fault) => format!(in alloc; "{fault}"),
+    let fault = QueueList::parse(alloc, &texts(rt, alloc, items)).err();
+    let said = match fault {
+        None => String::from_str(alloc, "accepted"),
+        Some(fault) => format!(in alloc; "{fault}"),
     };
     same(rt, said.expect(rt, "memory").as_str(), expected, items);
 }

@@ -1,20 +1,17 @@
+use crate::tables::{name, text};
 use http_wire::{Refusal, Reply};
 use job_envelope::EnvelopeFault;
-use job_states::{Answer, List, Made, Name, NoMemory, Outcome, Polled, Refused, Stage, Text};
+use job_states::{Answer, List, Made, NoMemory, Outcome, Polled, Refused, Stage};
 use queue_replies::{envelope_fault, fault_reply, reply_disk, reply_of, reply_refused};
-use std::alloc::Global;
 use std::process::Abort;
 
-fn expect(rt: &impl Abort, reply: Result<Reply, NoMemory>, status: u16, text: &str) {
+fn expect(rt: &impl Abort, reply: Result<Reply, NoMemory>, status: u16, body: &str) {
     let reply = reply.expect(rt, "memory");
     assert_eq!(rt;
         (reply.status, reply.body.as_slice()),
-        (status, text.as_bytes())
+        (status, body.as_bytes()),
+        "{body}"
     );
-}
-
-fn name(rt: &impl Abort, alloc: Global, text: &str) -> Name {
-    Name::read(alloc, text).expect(rt, text)
 }
 
 #[test]
@@ -26,7 +23,7 @@ fn claimed_jobs_are_handed_out(rt: HostRuntime) {
     let job = Polled {
         active_id: name(&rt, alloc, "j1"),
         class: name(&rt, alloc, "A"),
-        envelope: Text::read(alloc, ENVELOPE).expect(&rt, "memory"),
+        envelope: text(&rt, alloc, ENVELOPE),
         executions: 3,
         id: 7,
         priority: -5,

@@ -1,9 +1,9 @@
-use crate::tables::{row, same};
+use crate::tables::{row, same, text};
 use http::Method;
 use http_wire::Request;
-use job_states::{Bytes, Command, Text};
+use job_states::{Bytes, Command};
 use queue_routes::{Ask, BodyFault, ask_of};
-use std::alloc::{AllocError, Global};
+use std::alloc::Global;
 use std::process::Abort;
 
 fn command_name(command: &Command) -> &'static str {
@@ -28,8 +28,8 @@ fn command_name(command: &Command) -> &'static str {
     }
 }
 
-fn shown(alloc: Global, ask: &Ask) -> Result<String, AllocError> {
-    match ask {
+fn shown(rt: &impl Abort, alloc: Global, ask: &Ask) -> String {
+    let shown = match ask {
         Ask::Command(command) => String::from_str(alloc, command_name(command)),
         Ask::NotBuilt => String::from_str(alloc, "not built"),
         Ask::Refused(BodyFault::NotJson) => String::from_str(alloc, "not json"),
@@ -40,17 +40,18 @@ fn shown(alloc: Global, ask: &Ask) -> Result<String, AllocError> {
             format!(in alloc; "wrong kind {}", member.as_str())
         }
         Ask::Refused(BodyFault::Envelope { index, fault }) => format!(in alloc; "{index}: {fault}"),
-    }
+    };
+    shown.expect(rt, "memory")
 }
 
 /// The request of a method, a path and a body, with a blank between them.
-fn request_of(rt: &impl Abort, alloc: Global, text: &str) -> Request {
-    let (method, rest) = text.split_once(" ").expect(rt, text);
-    let (path, body) = rest.split_once(" ").expect(rt, text);
+fn request_of(rt: &impl Abort, alloc: Global, words: &str) -> Request {
+    let (method, rest) = words.split_once(" ").expect(rt, words);
+    let (path, body) = rest.split_once(" ").expect(rt, words);
     Request {
-        method: Method::from_bytes(alloc, method.as_bytes()).expect(rt, text),
-        path: Text::read(alloc, path).expect(rt, "memory"),
-        query: Text::read(alloc, "").expect(rt, "memory"),
+        method: Method::from_bytes(alloc, method.as_bytes()).expect(rt, words),
+        path: text(rt, alloc, path),
+        query: text(rt, alloc, ""),
         body: Bytes::read(alloc, body.as_bytes()).expect(rt, "memory"),
     }
 }
@@ -106,17 +107,18 @@ POST /upkeep/prune  => prune
 POST /upkeep/clear  => clear
 POST /upkeep/all  => not built"#;
 
-fn asked(rt: &impl Abort, alloc: Global, text: &str) -> String {
-    let request = request_of(rt, alloc, text);
-    let ask = ask_of(alloc, &request).expect(rt, "memory");
-    shown(alloc, &ask).expect(rt, "memory")
+/// What the request of these words asks for.
+fn expect(rt: &impl Abort, alloc: Global, request: &Request, expected: &str, words: &str) {
+    let ask = ask_of(alloc, request).expect(rt, "memory");
+    let found = shown(rt, alloc, &ask);
+    same(rt, found.as_str(), expected, words);
 }
 
 #[test]
 fn requests_ask_by_the_table(rt: HostRuntime) {
     for line in REQUESTS.lines() {
-        let (request, expected) = row(&rt, line);
-        let found = asked(&rt, rt.alloc(), request);
-        same(&rt, found.as_str(), expected, request);
+        let (words, expected) = row(&rt, line);
+        let request = request_of(&rt, rt.alloc(), words);
+        expect(&rt, rt.alloc(), &request, expected, words);
     }
 }

@@ -96,13 +96,17 @@ every hour at minute 60 => 0
 At 1am every day => 0
 * * * * * every => 10";
 
+fn expect_refused(rt: &impl Abort, text: &str, at: &str) {
+    let at = at.parse::<usize>().expect(rt, at);
+    let fault = Schedule::parse(text).err();
+    assert_eq!(rt; fault, Some(ScheduleFault::Refused { at }), "{text}");
+}
+
 #[test]
 fn places_of_refusals(rt: HostRuntime) {
     for line in REFUSED.lines() {
         let (text, at) = row(&rt, line);
         let text = text.replace(rt.alloc(), "~", "\n").expect(&rt, "memory");
-        let at = at.parse::<usize>().expect(&rt, at);
-        let fault = Schedule::parse(text.as_str()).err();
-        assert_eq!(rt; fault, Some(ScheduleFault::Refused { at }), "{text}");
+        expect_refused(&rt, text.as_str(), at);
     }
 }

@@ -1,7 +1,7 @@
 ghost use Rattle.queue_config.specs.Ranges.{IsConfig};
 
-use crate::tables::{row, same};
-use job_states::{Arg, Counted, Name, Text};
+use crate::tables::{name, row, same, text};
+use job_states::{Arg, Counted, Name};
 use queue_config::{Act, Config, KeyFault, SettingsFault};
 use std::alloc::{AllocError, Global};
 use std::process::Abort;
@@ -16,9 +16,9 @@ fn outcome(alloc: Global, text: &[u8]) -> Result<String, AllocError> {
     }
 }
 
-fn expect(rt: &impl Abort, alloc: Global, text: &[u8], expected: &str) {
+fn expect(rt: &impl Abort, alloc: Global, text: &[u8], expected: &str, of: &str) {
     let found = outcome(alloc, text).expect(rt, "memory");
-    same(rt, found.as_str(), expected, expected);
+    same(rt, found.as_str(), expected, of);
 }
 
 /// Settings with ` / ` for the ends of their lines and `~` for 64 letters, ` => `, and what comes of them.
@@ -228,37 +228,46 @@ classes = [{ name = "A", limit = { key = "k", group = "G" } }, { name = "B", lim
 /// Some of a table, and one more.
 fn expect_most(rt: &impl Abort, alloc: Global, table: &str, missing: &str) {
     let most = table.repeat(alloc, 1024).expect(rt, "memory");
-    expect(rt, alloc, most.as_bytes(), missing);
+    expect(rt, alloc, most.as_bytes(), missing, table);
     let more = table.repeat(alloc, 1025).expect(rt, "memory");
     let found = outcome(alloc, more.as_bytes()).expect(rt, "memory");
-    assert!(rt; found.as_str().starts_with("5 "));
+    assert!(rt; found.as_str().starts_with("5 "), "{table}");
+}
+
+/// The table with so many letters for each `~`.
+fn with_letters(rt: &impl Abort, alloc: Global, table: &str, count: usize) -> String {
+    let letters = "x".repeat(alloc, count).expect(rt, "memory");
+    table
+        .replace(alloc, "~", letters.as_str())
+        .expect(rt, "memory")
 }
 
 #[test]
 fn settings_are_accepted_or_refused_by_their_tables(rt: HostRuntime) {
     let alloc = rt.alloc();
-    let letters = "x".repeat(alloc, 64).expect(&rt, "memory");
-    for line in SETTINGS.lines() {
+    let table = with_letters(&rt, alloc, SETTINGS, 64);
+    for line in table.as_str().lines() {
         let (settings, expected) = row(&rt, line);
         let lines = settings.replace(alloc, " / ", "\n").expect(&rt, "memory");
-        let text = lines
-            .replace(alloc, "~", letters.as_str())
-            .expect(&rt, "memory");
-        expect(&rt, alloc, text.as_bytes(), expected);
+        expect(&rt, alloc, lines.as_bytes(), expected, settings);
     }
-    expect(&rt, alloc, b"\xff", "1 document");
-    expect_most(&rt, alloc, "[[classes]]\n", "3 classes[0].name");
-    expect_most(&rt, alloc, "[[errors]]\n", "3 errors[0].name");
-    expect_most(&rt, alloc, "[[tasks]]\n", "3 tasks[0].key");
 }
 
 #[test]
-fn settings_have_at_most_1048576_bytes(rt: HostRuntime) {
+fn settings_have_at_most_1024_tables_of_a_kind(rt: HostRuntime) {
+    expect_most(&rt, rt.alloc(), "[[classes]]\n", "3 classes[0].name");
+    expect_most(&rt, rt.alloc(), "[[errors]]\n", "3 errors[0].name");
+    expect_most(&rt, rt.alloc(), "[[tasks]]\n", "3 tasks[0].key");
+}
+
+#[test]
+fn settings_are_utf_8_and_have_at_most_1048576_bytes(rt: HostRuntime) {
     let alloc = rt.alloc();
-    let blank = "\n".repeat(alloc, 1_048_576).expect(&rt, "memory");
-    expect(&rt, alloc, blank.as_bytes(), "accepted");
-    let longer = "=".repeat(alloc, 1_048_577).expect(&rt, "memory");
-    expect(&rt, alloc, longer.as_bytes(), "10 length");
+    expect(&rt, alloc, b"\xff", "1 document", "no UTF-8");
+    let most = "\n".repeat(alloc, 1_048_576).expect(&rt, "memory");
+    expect(&rt, alloc, most.as_bytes(), "accepted", "the most bytes");
+    let more = "=".repeat(alloc, 1_048_577).expect(&rt, "memory");
+    expect(&rt, alloc, more.as_bytes(), "10 length", "one byte more");
 }
 
 const RULES: &[u8] = br#"
@@ -314,28 +323,21 @@ T Other;[IoError, Other] 65535 => 0 65535 3000000
 T IoError;[IoError, Other] 65533 => 0 65534 3000000
 T StandardError;[Timeout] 0 => 99 0 fail";
 
-fn name(rt: &impl Abort, alloc: Global, text: &str) -> Name {
-    Name::read(alloc, text).expect(rt, text)
-}
-
-fn text(rt: &impl Abort, alloc: Global, text: &str) -> Text {
-    Text::read(alloc, text).expect(rt, "memory")
-}
-
-/// The decision of a row, before the arrow.
-fn decided_row(rt: &impl Abort, alloc: Global, config: &Config, row: &str) -> String
+fn expect_decided(rt: &impl Abort, alloc: Global, config: &Config, line: &str)
     requires { IsConfig config.now }
 {
-    let (names, kept) = row.split_once(";").expect(rt, row);
-    let (class, error) = names.split_once(" ").expect(rt, row);
-    let (list, count) = kept.rsplit_once(" ").expect(rt, row);
+    let (question, expected) = row(rt, line);
+    let (names, kept) = question.split_once(";").expect(rt, line);
+    let (class, error) = names.split_once(" ").expect(rt, line);
+    let (list, count) = kept.rsplit_once(" ").expect(rt, line);
     let counted = Counted {
         list: text(rt, alloc, list),
-        count: count.parse::<u32>().expect(rt, row),
+        count: count.parse::<u32>().expect(rt, line),
     };
     let class = name(rt, alloc, class);
     let error = name(rt, alloc, error);
-    decided(alloc, config, &class, &error, &counted).expect(rt, "memory")
+    let found = decided(alloc, config, &class, &error, &counted).expect(rt, "memory");
+    same(rt, found.as_str(), expected, question);
 }
 
 #[test]
@@ -343,9 +345,7 @@ fn errors_are_decided_by_the_last_rule_that_fits(rt: HostRuntime) {
     let alloc = rt.alloc();
     let config = Config::read(alloc, RULES).expect(&rt, "settings");
     for line in DECISIONS.lines() {
-        let (question, expected) = row(&rt, line);
-        let found = decided_row(&rt, alloc, &config, question);
-        same(&rt, found.as_str(), expected, question);
+        expect_decided(&rt, alloc, &config, line);
     }
 }
 
@@ -374,50 +374,50 @@ fn limited(alloc: Global, config: &Config, class: &Name, arg: &Arg) -> Result<St
     }
 }
 
-fn expect_key(rt: &impl Abort, alloc: Global, class: &str, arg: &Arg, expected: &str) {
-    let config = Config::read(alloc, LIMITS).expect(rt, "settings");
-    let name = name(rt, alloc, class);
-    let found = limited(alloc, &config, &name, arg).expect(rt, "memory");
-    same(rt, found.as_str(), expected, class);
-}
-
-/// Texts as the argument of a job of class B; `~` stands for 128 letters.
-const TEXTS: &str = "x => B/x 1 180000000 false
-~ => B/~ 1 180000000 false
-~x => refused
- => refused";
-
-#[test]
-fn keys_come_from_texts(rt: HostRuntime) {
-    let alloc = rt.alloc();
-    let letters = "x".repeat(alloc, 128).expect(&rt, "memory");
-    for line in TEXTS.lines() {
-        let line = line
-            .replace(alloc, "~", letters.as_str())
-            .expect(&rt, "memory");
-        let (words, expected) = row(&rt, line.as_str());
-        let arg = Arg::Text(text(&rt, alloc, words));
-        expect_key(&rt, alloc, "B", &arg, expected);
-    }
-}
-
-/// Classes, whole numbers as arguments, and keys.
-const NUMBERS: &str = "B -9223372036854775808 => B/-9223372036854775808 1 180000000 false
+/// Classes, arguments of their jobs, and keys; `~` stands for 128 letters.
+const KEYS: &str = "B 'x' => B/x 1 180000000 false
+B '~' => B/~ 1 180000000 false
+B '~x' => refused
+B '' => refused
+B -9223372036854775808 => B/-9223372036854775808 1 180000000 false
 B 18446744073709551615 => B/18446744073709551615 1 180000000 false
+B null => none
+B other => refused
 A 1 => none
+A other => none
 Z 1 => none
+Z other => none
 C 1 => G/k 2 1000000 true
-D 1 => none";
+C other => G/k 2 1000000 true
+D 1 => none
+D other => none";
+
+fn arg_of(rt: &impl Abort, alloc: Global, shown: &str) -> Arg {
+    match shown {
+        "null" => Arg::Null,
+        "other" => Arg::Other,
+        _ if shown.starts_with('\'') => Arg::Text(text(rt, alloc, shown.trim_matches('\''))),
+        _ => Arg::Whole(shown.parse::<i128>().expect(rt, shown)),
+    }
+}
+
+fn expect_key(rt: &impl Abort, alloc: Global, config: &Config, line: &str)
+    requires { IsConfig config.now }
+{
+    let (question, expected) = row(rt, line);
+    let (class, arg) = question.split_once(" ").expect(rt, line);
+    let class = name(rt, alloc, class);
+    let arg = arg_of(rt, alloc, arg);
+    let found = limited(alloc, config, &class, &arg).expect(rt, "memory");
+    same(rt, found.as_str(), expected, question);
+}
 
 #[test]
-fn keys_come_from_whole_numbers_and_the_settings(rt: HostRuntime) {
-    for line in NUMBERS.lines() {
-        let (question, expected) = row(&rt, line);
-        let (class, number) = question.split_once(" ").expect(&rt, line);
-        let arg = Arg::Whole(number.parse::<i128>().expect(&rt, number));
-        expect_key(&rt, rt.alloc(), class, &arg, expected);
+fn keys_come_from_the_settings_or_an_argument(rt: HostRuntime) {
+    let alloc = rt.alloc();
+    let config = Config::read(alloc, LIMITS).expect(&rt, "settings");
+    let table = with_letters(&rt, alloc, KEYS, 128);
+    for line in table.as_str().lines() {
+        expect_key(&rt, alloc, &config, line);
     }
-    expect_key(&rt, rt.alloc(), "B", &Arg::Null, "none");
-    expect_key(&rt, rt.alloc(), "B", &Arg::Other, "refused");
-    expect_key(&rt, rt.alloc(), "C", &Arg::Other, "G/k 2 1000000 true");
 }

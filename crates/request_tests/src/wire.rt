@@ -38,10 +38,20 @@ fn listed<S: Source>(rt: &impl Abort, alloc: Global, source: &mut S) -> String {
     listed
 }
 
-fn expect(rt: &impl Abort, alloc: Global, stream: &[u8], expected: &str) {
+fn expect_listed<S: Source>(
+    rt: &impl Abort,
+    alloc: Global,
+    source: &mut S,
+    expected: &str,
+    of: &str,
+) {
+    let found = listed(rt, alloc, source);
+    same(rt, found.as_str(), expected, of);
+}
+
+fn expect(rt: &impl Abort, alloc: Global, stream: &[u8], expected: &str, of: &str) {
     let bytes = Vec::from_slice(alloc, stream).expect(rt, "memory");
-    let found = listed(rt, alloc, &mut SureSource::new(bytes));
-    same(rt, found.as_str(), expected, expected);
+    expect_listed(rt, alloc, &mut SureSource::new(bytes), expected, of);
 }
 
 // A head that has no end yet, of this length.
@@ -55,12 +65,6 @@ fn joined(rt: &impl Abort, alloc: Global, first: &[u8], second: &[u8]) -> Vec<u8
     let mut whole = Vec::from_slice(alloc, first).expect(rt, "memory");
     whole.extend_from_slice(second).expect(rt, "memory");
     whole
-}
-
-fn head_of_fields(rt: &impl Abort, alloc: Global, count: usize) -> Vec<u8> {
-    let fields = "A: b\r\n".repeat(alloc, count).expect(rt, "memory");
-    let open = joined(rt, alloc, b"GET / HTTP/1.1\r\n", fields.as_bytes());
-    joined(rt, alloc, &open, b"\r\n")
 }
 
 /// The bytes of a text in which `|` stands for a carriage return and a line feed, `^` for the one and `~` for the other.
@@ -97,24 +101,25 @@ fn heads_are_read_or_refused_at_their_place(rt: HostRuntime) {
     let alloc = rt.alloc();
     for line in STREAMS.lines() {
         let (text, expected) = row(&rt, line);
-        expect(&rt, alloc, stream_of(&rt, alloc, text).as_bytes(), expected);
+        let stream = stream_of(&rt, alloc, text);
+        expect(&rt, alloc, stream.as_bytes(), expected, text);
     }
-    expect(
-        &rt,
-        alloc,
-        b"GET /\xff HTTP/1.1\r\n\r\n",
-        "BadRequest { at: 0 }",
-    );
+    let target = b"GET /\xff HTTP/1.1\r\n\r\n";
+    expect(&rt, alloc, target, "BadRequest { at: 0 }", "no UTF-8");
 }
 
-/// Line ends, and then a request or nothing.
-fn expect_after(rt: &impl Abort, alloc: Global, line_ends: &str, rest: &[u8], expected: &str) {
-    expect(
-        rt,
-        alloc,
-        &joined(rt, alloc, line_ends.as_bytes(), rest),
-        expected,
-    );
+fn expect_fields(rt: &impl Abort, alloc: Global, count: usize, expected: &str) {
+    let fields = "A: b\r\n".repeat(alloc, count).expect(rt, "memory");
+    let head = format!(in alloc; "GET / HTTP/1.1\r\n{fields}\r\n").expect(rt, "memory");
+    let of = format!(in alloc; "{count} fields").expect(rt, "memory");
+    expect(rt, alloc, head.as_bytes(), expected, of.as_str());
+}
+
+/// A head that has no end yet, and what follows it.
+fn expect_open(rt: &impl Abort, alloc: Global, len: usize, rest: &[u8], expected: &str) {
+    let stream = joined(rt, alloc, &open_head(rt, alloc, len), rest);
+    let of = format!(in alloc; "{len} bytes").expect(rt, "memory");
+    expect(rt, alloc, &stream, expected, of.as_str());
 }
 
 #[test]
@@ -123,20 +128,28 @@ fn a_head_has_64_fields_and_16384_bytes_at_most(rt: HostRuntime) {
     let taken = "GET [/] [] [], end";
     let refused = "BadRequest { at: 0 }";
     let too_large = "TooLarge { at: 0, len: 16384 }";
-    expect(&rt, alloc, &head_of_fields(&rt, alloc, 64), taken);
-    expect(&rt, alloc, &head_of_fields(&rt, alloc, 65), refused);
-    expect(&rt, alloc, &open_head(&rt, alloc, 16_383), refused);
-    expect(&rt, alloc, &open_head(&rt, alloc, 16_384), too_large);
-    expect(&rt, alloc, &open_head(&rt, alloc, 16_385), too_large);
-    let most = open_head(&rt, alloc, 16_380);
-    expect(&rt, alloc, &joined(&rt, alloc, &most, b"\r\n\r\n"), taken);
-    let more = open_head(&rt, alloc, 16_381);
-    expect(
-        &rt,
-        alloc,
-        &joined(&rt, alloc, &more, b"\r\n\r\n"),
-        too_large,
-    );
+    expect_fields(&rt, alloc, 64, taken);
+    expect_fields(&rt, alloc, 65, refused);
+    expect_open(&rt, alloc, 16_383, b"", refused);
+    expect_open(&rt, alloc, 16_384, b"", too_large);
+    expect_open(&rt, alloc, 16_385, b"", too_large);
+    expect_open(&rt, alloc, 16_380, b"\r\n\r\n", taken);
+    expect_open(&rt, alloc, 16_381, b"\r\n\r\n", too_large);
+}
+
+/// So many line ends, and then a request or nothing.
+fn expect_after(
+    rt: &impl Abort,
+    alloc: Global,
+    line_end: &str,
+    count: usize,
+    rest: &[u8],
+    expected: &str,
+) {
+    let line_ends = line_end.repeat(alloc, count).expect(rt, "memory");
+    let stream = joined(rt, alloc, line_ends.as_bytes(), rest);
+    let of = format!(in alloc; "{count} line ends and {} bytes", rest.len()).expect(rt, "memory");
+    expect(rt, alloc, &stream, expected, of.as_str());
 }
 
 #[test]
@@ -144,13 +157,10 @@ fn line_ends_before_a_request_count_as_its_head(rt: HostRuntime) {
     let alloc = rt.alloc();
     let too_large = "TooLarge { at: 0, len: 16384 }";
     // `GET` has 18 bytes.
-    let most = "\r\n".repeat(alloc, 8183).expect(&rt, "memory");
-    expect_after(&rt, alloc, most.as_str(), GET, "GET [/] [] [], end");
-    let too_many = "\n".repeat(alloc, 16_367).expect(&rt, "memory");
-    expect_after(&rt, alloc, too_many.as_str(), GET, too_large);
-    let many = "\r\n".repeat(alloc, 10_000).expect(&rt, "memory");
-    expect_after(&rt, alloc, many.as_str(), GET, too_large);
-    expect_after(&rt, alloc, many.as_str(), b"", "end");
+    expect_after(&rt, alloc, "\r\n", 8183, GET, "GET [/] [] [], end");
+    expect_after(&rt, alloc, "\n", 16_367, GET, too_large);
+    expect_after(&rt, alloc, "\r\n", 10_000, GET, too_large);
+    expect_after(&rt, alloc, "\r\n", 10_000, b"", "end");
 }
 
 #[test]
@@ -161,14 +171,22 @@ fn a_body_of_1048576_bytes_is_taken(rt: HostRuntime) {
     let stream = joined(&rt, alloc, head, body.as_bytes());
     let stream = joined(&rt, alloc, &stream, GET);
     let listed = format!(in alloc; "PUT [/] [] [{body}], GET [/] [] [], end").expect(&rt, "memory");
-    expect(&rt, alloc, &stream, listed.as_str());
+    expect(&rt, alloc, &stream, listed.as_str(), "the longest body");
 }
 
 #[test]
 fn a_request_that_is_cut_is_refused(rt: HostRuntime) {
-    expect(&rt, rt.alloc(), b"", "end");
+    let alloc = rt.alloc();
+    expect(&rt, alloc, b"", "end", "0 bytes");
     for len in 1..POST.len() {
-        expect(&rt, rt.alloc(), &POST[..len], "BadRequest { at: 0 }");
+        let of = format!(in alloc; "{len} bytes").expect(&rt, "memory");
+        expect(
+            &rt,
+            alloc,
+            &POST[..len],
+            "BadRequest { at: 0 }",
+            of.as_str(),
+        );
     }
 }
 
@@ -186,9 +204,9 @@ fn expect_in_pieces(rt: &impl Abort, alloc: Global, requests: &[u8], rest: &str,
         rt, "memory",
     );
     let stream = joined(rt, alloc, requests, rest.as_bytes());
-    expect(rt, alloc, &stream, expected.as_str());
-    let found = listed(rt, alloc, &mut Trickle::new(SureSource::new(stream), 1));
-    same(rt, found.as_str(), expected.as_str(), rest);
+    expect(rt, alloc, &stream, expected.as_str(), rest);
+    let mut pieces = Trickle::new(SureSource::new(stream), 1);
+    expect_listed(rt, alloc, &mut pieces, expected.as_str(), rest);
 }
 
 #[test]
@@ -208,9 +226,10 @@ fn pieces_of_one_byte_are_read_as_one_piece_is(rt: HostRuntime) {
 fn expect_failing(rt: &impl Abort, alloc: Global, stream: &[u8], call: u64, given: &str) {
     let bytes = Vec::from_slice(alloc, stream).expect(rt, "memory");
     let calls = vec![in alloc; call].expect(rt, "memory");
+    let mut source = MemSource::new(bytes, calls);
     let expected = format!(in alloc; "{given}{:?}", WireFault::ReadFault).expect(rt, "memory");
-    let found = listed(rt, alloc, &mut MemSource::new(bytes, calls));
-    same(rt, found.as_str(), expected.as_str(), given);
+    let of = format!(in alloc; "{} bytes, read {call}", stream.len()).expect(rt, "memory");
+    expect_listed(rt, alloc, &mut source, expected.as_str(), of.as_str());
 }
 
 #[test]
@@ -221,6 +240,11 @@ fn requests_before_a_read_that_fails_are_given(rt: HostRuntime) {
     let two = joined(&rt, alloc, GET, POST);
     let listed_two = format!(in alloc; "GET [/] [] [], {LISTED_POST}").expect(&rt, "memory");
     expect_failing(&rt, alloc, &two, 2, listed_two.as_str());
+}
+
+#[test]
+fn nothing_is_given_of_a_request_whose_read_fails(rt: HostRuntime) {
+    let alloc = rt.alloc();
     let open = open_head(&rt, alloc, 9000);
     expect_failing(&rt, alloc, &open, 2, "");
     let head = b"PUT / HTTP/1.1\r\nContent-Length: 9000\r\n\r\n";
@@ -234,9 +258,10 @@ fn a_whole_request_is_not_kept_waiting_for_one_more_byte(rt: HostRuntime) {
     let alloc = rt.alloc();
     let bytes = Vec::from_slice(alloc, GET).expect(&rt, "memory");
     let source = MemSource::new(bytes, vec![in alloc; 19].expect(&rt, "memory"));
+    let mut pieces = Trickle::new(source, 1);
     let expected = format!(in alloc; "GET [/] [] [], {:?}", WireFault::ReadFault).expect(
         &rt, "memory",
     );
-    let found = listed(&rt, alloc, &mut Trickle::new(source, 1));
-    same(&rt, found.as_str(), expected.as_str(), "pieces of one byte");
+    let of = "pieces of one byte";
+    expect_listed(&rt, alloc, &mut pieces, expected.as_str(), of);
 }

@@ -110,60 +110,62 @@ fn held(n: usize) -> &'static [u8] {
 }
 
 /// What a crash leaves of the disk, as this choice has it, holds the first `n` payloads, or one more.
-fn expect_held(rt: &impl Abort, alloc: Global, disk: &MemDisk, pick: u64, n: usize) {
+fn expect_held(rt: &impl Abort, alloc: Global, disk: &MemDisk, pick: u64, n: usize, of: &str) {
     let mut left = disk.stopped(pick).expect(rt, "memory");
-    let (_journal, payloads) = read_all(rt, alloc, &mut left).expect(rt, "opened");
+    let (_journal, payloads) = read_all(rt, alloc, &mut left).expect(rt, of);
     let found = payloads.as_slice();
-    assert!(rt; found == held(n) || found == held(n.saturating_add(1)));
+    assert!(rt;
+        found == held(n) || found == held(n.saturating_add(1)),
+        "{of}"
+    );
 }
 
 /// An opening of these bytes whose call of this number fails, and a crash in it, leave the first `n` payloads, or one more.
-fn expect_reopened(rt: &impl Abort, alloc: Global, bytes: &[u8], call: u64, n: usize) {
+fn expect_reopened(rt: &impl Abort, alloc: Global, bytes: &[u8], call: u64, n: usize, of: &str) {
     let mut disk = disk_failing(rt, alloc, bytes, call, 1);
     let _answer = read_all(rt, alloc, &mut disk);
     for pick in 0..8 {
-        expect_held(rt, alloc, &disk, pick, n);
+        expect_held(rt, alloc, &disk, pick, n, of);
     }
 }
 
 /// A crash, and one inside the opening that follows it, leave the first `n` payloads, or one more.
-fn expect_crashes(rt: &impl Abort, alloc: Global, disk: &MemDisk, n: usize) {
+fn expect_crashes(rt: &impl Abort, alloc: Global, disk: &MemDisk, n: usize, of: &str) {
     for pick in 0..64 {
-        expect_held(rt, alloc, disk, pick, n);
+        expect_held(rt, alloc, disk, pick, n, of);
     }
     for pick in 0..8 {
         let left = disk.stopped(pick).expect(rt, "memory");
         for call in 1..6 {
-            expect_reopened(rt, alloc, left.bytes(0), call, n);
+            expect_reopened(rt, alloc, left.bytes(0), call, n, of);
         }
     }
 }
 
 /// A crash leaves the first `n` payloads and the one more.
-fn expect_more(rt: &impl Abort, alloc: Global, disk: &MemDisk, n: usize) {
+fn expect_more(rt: &impl Abort, alloc: Global, disk: &MemDisk, n: usize, of: &str) {
     for pick in 0..8 {
         let mut left = disk.stopped(pick).expect(rt, "memory");
-        let (_journal, payloads) = read_all(rt, alloc, &mut left).expect(rt, "opened");
-        let before = payloads
-            .as_slice()
-            .strip_suffix(b"z;")
-            .expect(rt, "one more");
-        assert!(rt; before == held(n));
+        let (_journal, payloads) = read_all(rt, alloc, &mut left).expect(rt, of);
+        let before = payloads.as_slice().strip_suffix(b"z;").expect(rt, of);
+        assert!(rt; before == held(n), "{of}");
     }
 }
 
 /// On a disk whose call of this number fails, each crash leaves what was acknowledged, also after one append more.
 fn outlasts(rt: &impl Abort, alloc: Global, call: u64, kept: u32) {
+    let of = format!(in alloc; "call {call}, {kept} kept").expect(rt, "memory");
+    let of = of.as_str();
     let mut disk = disk_failing(rt, alloc, b"", call, kept);
     let Ok((mut journal, _payloads)) = read_all(rt, alloc, &mut disk) else {
-        return expect_crashes(rt, alloc, &disk, 0);
+        return expect_crashes(rt, alloc, &disk, 0, of);
     };
     let n = append_three(rt, alloc, &mut disk, &mut journal);
-    expect_crashes(rt, alloc, &disk, n);
+    expect_crashes(rt, alloc, &disk, n, of);
     if n < 3 {
         let more = appends(rt, alloc, &mut disk, &mut journal, b"z");
-        assert!(rt; more);
-        expect_more(rt, alloc, &disk, n);
+        assert!(rt; more, "{of}");
+        expect_more(rt, alloc, &disk, n, of);
     }
 }
 
@@ -187,17 +189,22 @@ SQJRNAL~\0\0\0\x02 => Version { file: 0, n: 2 } => SQJRNAL~\0\0\0\x02
 SQJRNAL~\0\0\0\x01\0\0\0\0R\0\0\0\x01aR\0\0\0\x03bc => BadRecord { at: 22 } => SQJRNAL~\0\0\0\x01\0\0\0\0R\0\0\0\x01aR\0\0\0\x03bc
 SQJRNAL~\0\0\0\x01\0\0\0\0R\0\0\0\0abc => BadRecord { at: 16 } => SQJRNAL~\0\0\0\x01\0\0\0\0R\0\0\0\0abc";
 
-/// What the journal of a file holds, or why it is refused, and the file then.
-fn opened(rt: &impl Abort, alloc: Global, file: &str) -> String {
-    let mut disk = disk_of(rt, alloc, file.as_bytes(), Vec::new(alloc));
-    let said = match read_all(rt, alloc, &mut disk) {
+/// What the journal of a disk holds, or why it is refused.
+fn said(rt: &impl Abort, alloc: Global, disk: &mut MemDisk) -> String {
+    let said = match read_all(rt, alloc, disk) {
         Ok((_journal, payloads)) => {
             let payloads = String::from_utf8_lossy(alloc, &payloads).expect(rt, "memory");
             format!(in alloc; "[{payloads}]")
         }
         Err(fault) => format!(in alloc; "{fault:?}"),
     };
-    let said = said.expect(rt, "memory");
+    said.expect(rt, "memory")
+}
+
+/// What the journal of a file holds, or why it is refused, and the file then.
+fn opened(rt: &impl Abort, alloc: Global, file: &str) -> String {
+    let mut disk = disk_of(rt, alloc, file.as_bytes(), Vec::new(alloc));
+    let said = said(rt, alloc, &mut disk);
     let left = disk.stopped(0).expect(rt, "memory");
     let then = String::from_utf8_lossy(alloc, left.bytes(0)).expect(rt, "memory");
     format!(in alloc; "{said} => {then}").expect(rt, "memory")
@@ -209,8 +216,14 @@ fn files_are_opened_or_refused(rt: HostRuntime) {
     for row in FILES.lines() {
         let row = row.replace(alloc, "~", "\n").expect(&rt, "memory");
         let (file, expected) = row.as_str().split_once(" => ").expect(&rt, "a row");
-        assert_eq!(rt; opened(&rt, alloc, file).as_str(), expected);
+        assert_eq!(rt; opened(&rt, alloc, file).as_str(), expected, "{file:?}");
     }
+}
+
+fn payloads_of(rt: &impl Abort, alloc: Global, file: &str) -> Vec<u8> {
+    let mut disk = disk_of(rt, alloc, file.as_bytes(), Vec::new(alloc));
+    let (_journal, payloads) = read_all(rt, alloc, &mut disk).expect(rt, "opened");
+    payloads
 }
 
 #[test]
@@ -220,8 +233,7 @@ fn a_payload_longer_than_the_window_is_read(rt: HostRuntime) {
     let file = format!(in alloc;
         "SQJRNAL\n\0\0\0\x01\0\0\0\0R\0\x01\x11\x70{long}R\0\0\0\x01a\0"
     ).expect(&rt, "memory");
-    let mut disk = disk_of(&rt, alloc, file.as_bytes(), Vec::new(alloc));
-    let (_journal, payloads) = read_all(&rt, alloc, &mut disk).expect(&rt, "opened");
+    let payloads = payloads_of(&rt, alloc, file.as_str());
     assert_eq!(rt; payloads.len(), 70_003);
     assert!(rt; payloads.as_slice().ends_with(b"x;a;"));
 }

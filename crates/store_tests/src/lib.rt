@@ -16,3 +16,5 @@ mod records;
 mod tables;
 #[cfg(test)]
 mod types;
+#[cfg(test)]
+mod words;

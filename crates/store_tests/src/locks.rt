@@ -1,4 +1,5 @@
-use job_states::{Mode, Name, Row, Text};
+use crate::words::{name, text};
+use job_states::{Mode, Row};
 use row_locks::{Locks, TakeFault};
 use std::alloc::Global;
 use std::process::Abort;
@@ -38,17 +39,17 @@ fn a_row_is_shared_or_held_alone(rt: HostRuntime) {
 #[test]
 fn a_borrowed_key_or_name_is_asked_about(rt: HostRuntime) {
     let alloc = rt.alloc();
-    let name = Name::read(alloc, "default").expect(&rt, "a name");
-    let held = Name::read(alloc, "default").expect(&rt, "a name");
+    let name = name(&rt, alloc, "default");
+    let held = Row::Queue(name.clone().expect(&rt, "memory"));
     let mut locks = Locks::new(alloc);
-    take(&rt, alloc, &mut locks, 1, Row::Queue(held), Mode::Alone);
+    take(&rt, alloc, &mut locks, 1, held, Mode::Alone);
     assert!(rt; locks.is_key_free(name.as_text(), Mode::Alone, 2));
     assert!(rt; !locks.is_queue_free(&name, Mode::Shared, 2));
     assert!(rt; locks.is_task_free(&name, Mode::Alone, 2));
 }
 
 fn key(rt: &impl Abort, alloc: Global) -> Row {
-    Row::Key(Text::read(alloc, "B/x").expect(rt, "memory"))
+    Row::Key(text(rt, alloc, "B/x"))
 }
 
 #[test]

@@ -28,13 +28,12 @@ fn refused_at(alloc: Global, bytes: &[u8]) -> Option<usize> {
 /// The payload is read whatever follows it, and written again; each of its proper prefixes is refused at its length.
 fn expect_read_and_written(rt: &impl Abort, alloc: Global, bytes: &[u8]) {
     for end in 0..bytes.len() {
-        assert_eq!(rt; refused_at(alloc, &bytes[..end]), Some(end));
+        assert_eq!(rt; refused_at(alloc, &bytes[..end]), Some(end), "{bytes:?}");
     }
     let longer = joined(rt, alloc, bytes, &[9]);
     let (txs, len) = read_tx(alloc, &longer).ok().expect(rt, "read");
-    assert_eq!(rt; len, bytes.len());
     let again = write_tx(alloc, &txs).ok().expect(rt, "written");
-    assert!(rt; again.as_slice() == bytes);
+    assert_eq!(rt; (again.as_slice(), len), (bytes, bytes.len()));
 }
 
 /// The bytes with another one at a place.
@@ -57,7 +56,7 @@ fn the_first_enqueue_has_77_bytes(rt: HostRuntime) {
             _ => Some(place),
         };
         let other = changed(&rt, rt.alloc(), &bytes, place);
-        assert_eq!(rt; refused_at(rt.alloc(), &other), expected);
+        assert_eq!(rt; refused_at(rt.alloc(), &other), expected, "{place}");
     }
     expect_read_and_written(&rt, rt.alloc(), &bytes);
 }
@@ -124,7 +123,7 @@ const REFUSED: [(&[u8], usize); 17] = [
 fn refusals_name_the_first_byte_that_nothing_continues(rt: HostRuntime) {
     for (step, at) in REFUSED {
         let bytes = joined(&rt, rt.alloc(), &ONE_STEP, step);
-        assert_eq!(rt; refused_at(rt.alloc(), &bytes), Some(at));
+        assert_eq!(rt; refused_at(rt.alloc(), &bytes), Some(at), "{step:?}");
     }
 }
 

@@ -1,26 +1,23 @@
+use crate::words::name;
 use exec_tables::Tables;
-use job_states::{Bytes, JobRow, Kind, List, Name, Put, Transaction, Transition};
+use job_states::{Bytes, JobRow, Kind, List, Put, Transaction, Transition};
 use std::alloc::Global;
 use std::process::Abort;
-
-fn name(rt: &impl Abort, alloc: Global) -> Name {
-    Name::read(alloc, "q").expect(rt, "a name")
-}
 
 fn register(rt: &impl Abort, alloc: Global) -> Transition {
     Transition::Register {
         pid: 1,
         kind: Kind::Worker,
-        name: name(rt, alloc),
+        name: name(rt, alloc, "w"),
     }
 }
 
 fn enqueue(rt: &impl Abort, alloc: Global) -> Transition {
     let row = JobRow {
         id: 1,
-        class: name(rt, alloc),
-        active_id: name(rt, alloc),
-        queue: name(rt, alloc),
+        class: name(rt, alloc, "q"),
+        active_id: name(rt, alloc, "q"),
+        queue: name(rt, alloc, "q"),
         priority: -1,
         envelope: Bytes::read(alloc, b"{}").expect(rt, "memory"),
         executions: 0,
@@ -41,17 +38,16 @@ fn takes_in(rt: &impl Abort, alloc: Global, tables: &mut Tables, step: Transitio
 }
 
 // A process takes a job, which it can't take again.
+fn expect_history(rt: &impl Abort, alloc: Global, tables: &mut Tables) {
+    assert!(rt; takes_in(rt, alloc, tables, register(rt, alloc)));
+    assert!(rt; takes_in(rt, alloc, tables, enqueue(rt, alloc)));
+    assert!(rt; takes_in(rt, alloc, tables, CLAIM));
+    assert!(rt; !takes_in(rt, alloc, tables, CLAIM));
+    assert_eq!(rt; tables.claims(1), 1);
+}
+
 #[test]
 fn transactions_are_taken_in_and_looked_up(rt: HostRuntime) {
-    let alloc = rt.alloc();
-    let mut tables = Tables::new(alloc);
-    let registered = takes_in(&rt, alloc, &mut tables, register(&rt, alloc));
-    let enqueued = takes_in(&rt, alloc, &mut tables, enqueue(&rt, alloc));
-    let claimed = takes_in(&rt, alloc, &mut tables, CLAIM);
-    let again = takes_in(&rt, alloc, &mut tables, CLAIM);
-    assert_eq!(rt;
-        [registered, enqueued, claimed, again],
-        [true, true, true, false]
-    );
-    assert_eq!(rt; tables.claims(1), 1);
+    let mut tables = Tables::new(rt.alloc());
+    expect_history(&rt, rt.alloc(), &mut tables);
 }

@@ -1,14 +1,7 @@
-use job_states::{Bytes, Copied, Counted, JobRow, LAST, Limited, List, Name, Row, Text, later};
+use crate::words::{name, text};
+use job_states::{Bytes, Copied, Counted, JobRow, Limited, List, Name, Row};
 use std::alloc::Global;
 use std::process::Abort;
-
-fn name(rt: &impl Abort, alloc: Global, text: &str) -> Name {
-    Name::read(alloc, text).expect(rt, text)
-}
-
-fn text(rt: &impl Abort, alloc: Global, text: &str) -> Text {
-    Text::read(alloc, text).expect(rt, "memory")
-}
 
 #[test]
 fn names_have_1_to_128_bytes(rt: HostRuntime) {
@@ -21,35 +14,47 @@ fn names_have_1_to_128_bytes(rt: HostRuntime) {
     assert_eq!(rt; shown.as_str(), "a name has 129 bytes, more than 128");
 }
 
-#[test]
-fn the_last_moment_has_none_after_it(rt: HostRuntime) {
-    assert_eq!(rt; later(LAST, 1), LAST);
+fn counted(rt: &impl Abort, alloc: Global, list: &str, count: u32) -> Counted {
+    let list = text(rt, alloc, list);
+    Counted { list, count }
 }
 
-#[test]
-fn a_copy_of_a_whole_row_is_made(rt: HostRuntime) {
-    let alloc = rt.alloc();
-    let counted = Counted {
-        list: text(&rt, alloc, "[NetError]"),
-        count: 2,
-    };
-    let row = JobRow {
+fn counts(rt: &impl Abort, alloc: Global) -> List<Counted> {
+    let first = counted(rt, alloc, "[NetError]", 2);
+    let second = counted(rt, alloc, "[Timeout]", 1);
+    List::of(vec![in alloc; first, second].expect(rt, "memory"))
+}
+
+fn row(rt: &impl Abort, alloc: Global) -> JobRow {
+    JobRow {
         id: 7,
-        class: name(&rt, alloc, "Mail"),
-        queue: name(&rt, alloc, "default"),
+        class: name(rt, alloc, "Mail"),
+        queue: name(rt, alloc, "default"),
         priority: -1,
-        active_id: name(&rt, alloc, "8bd5b1c0"),
-        envelope: Bytes::read(alloc, b"{}").expect(&rt, "memory"),
+        active_id: name(rt, alloc, "8bd5b1c0"),
+        envelope: Bytes::read(alloc, b"{}").expect(rt, "memory"),
         executions: 3,
-        counts: List::of(vec![in alloc; counted].expect(&rt, "memory")),
+        counts: counts(rt, alloc),
         limited: Some(Limited {
-            key: text(&rt, alloc, "Mail/7"),
+            key: text(rt, alloc, "Mail/7"),
             to: 1,
             duration: 180_000_000,
             discard: false,
         }),
-    };
-    assert_eq!(rt; row.copy().expect(&rt, "memory").counts.len(), 1);
+    }
+}
+
+fn expect_count_and_key(rt: &impl Abort, row: &JobRow) {
+    let second = row.counts.as_slice().get(1).expect(rt, "two counts");
+    assert_eq!(rt; (second.list.as_str(), second.count), ("[Timeout]", 1));
+    let limited = row.limited.as_ref().expect(rt, "a limit");
+    assert_eq!(rt; limited.key.as_str(), "Mail/7");
+}
+
+#[test]
+fn a_copy_of_a_whole_row_is_made(rt: HostRuntime) {
+    let copy = row(&rt, rt.alloc()).copy().expect(&rt, "memory");
+    expect_count_and_key(&rt, &copy);
 }
 
 #[test]

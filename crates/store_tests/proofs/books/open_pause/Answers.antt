@@ -51,9 +51,9 @@ pub open_plan-requires-clause-plan : goal.open_plan-requires-clause-plan
 open_plan-requires-clause-plan g c =
     let b = c.args.book.now in
     let is_open : is_some (get b.open_plans c.args.seat) ≡ false = cc in
-    let there : is_some (get c.tables.result.now.world.paused c.read-name.result) ≡ false = cc in
-    let same : is_some (get c.tables.result.now.world.paused c.read-name.result) ≡ is_some (get b.world.paused c.args.queue.now) = (λ i. is_some (get (c.tables.ensures.same i).paused (c.read-name.ensures.same i))) in
+    let there : is_some (get c.tables.result.now.world.paused c.name-name.result) ≡ false = cc in
+    let same : is_some (get c.tables.result.now.world.paused c.name-name.result) ≡ is_some (get b.world.paused c.args.queue.now) = (λ i. is_some (get (c.tables.ensures.same i).paused (c.name-name.ensures.same i))) in
     let is_paused : is_some (get b.world.paused c.args.queue.now) ≡ false = sym same ∙ there in
     rw c.pause-plan.ensures
     (may_pause b c.args.seat c.args.queue.now c.tables.ensures.good (none_there (get b.open_plans c.args.seat) is_open) (none_there (get b.world.paused c.args.queue.now) is_paused)
-    (subst IsName c.read-name.ensures.same c.read-name.ensures.name))
+    (subst IsName c.name-name.ensures.same c.name-name.ensures.name))
