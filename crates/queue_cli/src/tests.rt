@@ -430,13 +430,13 @@ fn status_tells_what_an_opening_finds(rt: HostRuntime) {
 #[test]
 fn each_run_ends_with_its_status(rt: HostRuntime) {
     const BAD: &str = "[[classes]]\ncolour = 1\n";
+    const CUT: &str =
+        "HTTP/1.1 400 Bad Request\r\nContent-Type: application/json\r\nContent-Length: 30\r\n\r\n{\"at\":0,\"error\":\"bad_request\"}";
     let alloc = rt.alloc();
-    let mut cut = String::new(alloc);
-    push_reply(&rt, &mut cut, r#"400 {"at":0,"error":"bad_request"}"#);
     let open = "GET / HTTP/1.1\r\n";
     let refused = "settings 2 classes[0].colour\n";
     expect_anew(&rt, alloc, "exec", SETTINGS, "", 0, 0, "");
-    expect_anew(&rt, alloc, "exec", SETTINGS, open, 0, 1, &cut);
+    expect_anew(&rt, alloc, "exec", SETTINGS, open, 0, 1, CUT);
     expect_anew(&rt, alloc, "exec", BAD, "", 0, 3, refused);
     expect_anew(&rt, alloc, "exec", SETTINGS, "", 1, 6, "disk fault\n");
 }
@@ -466,6 +466,13 @@ fn traces_are_played_by_the_tables(rt: HostRuntime) {
     }
 }
 
+/// The rows in which each of so many seats begins this command.
+fn push_begins(rt: &impl Abort, trace: &mut String, moment: u64, seats: u64, command: &str) {
+    for seat in 0..seats {
+        writeln!(trace, "@{moment} {seat} begin {command} => open").expect(rt, "memory");
+    }
+}
+
 /// The row of a seat's commit, which claims the hundred jobs after those of the seats before it.
 fn push_claims(rt: &impl Abort, trace: &mut String, seat: u64)
     requires { seat < 3 }
@@ -490,9 +497,7 @@ fn open_polls_count_as_claims(rt: HostRuntime) {
         .expect(&rt, "memory");
     }
     writeln!(trace, r#"@0 0 do register worker w => {{"pid":1}}"#).expect(&rt, "memory");
-    for seat in 0..5_u64 {
-        writeln!(trace, "@1 {seat} begin poll 1 100 * => open").expect(&rt, "memory");
-    }
+    push_begins(&rt, &mut trace, 1, 5, "poll 1 100 *");
     for seat in 0..3_u64 {
         push_claims(&rt, &mut trace, seat);
     }
@@ -508,9 +513,7 @@ fn open_polls_count_as_claims(rt: HostRuntime) {
 fn push_enqueues(rt: &impl Abort, trace: &mut String, round: u64)
     requires { round < 8 }
 {
-    for seat in 0..8_u64 {
-        writeln!(trace, "@{round} {seat} begin enqueue A q 0 - - => open").expect(rt, "memory");
-    }
+    push_begins(rt, trace, round, 8, "enqueue A q 0 - -");
     for turn in 0..8_u64 {
         let seat = (3 * turn + round) % 8;
         let id = 8 * round + seat + 1;
@@ -528,9 +531,7 @@ fn push_enqueues(rt: &impl Abort, trace: &mut String, round: u64)
 fn push_polls(rt: &impl Abort, trace: &mut String, round: u64)
     requires { round < 7 }
 {
-    for seat in 0..8_u64 {
-        writeln!(trace, "@9 {seat} begin poll 1 1 * => open").expect(rt, "memory");
-    }
+    push_begins(rt, trace, 9, 8, "poll 1 1 *");
     for turn in 0..8_u64 {
         let seat = (5 * turn + round) % 8;
         let place = 8 * round + seat;
