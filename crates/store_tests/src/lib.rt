@@ -9,6 +9,8 @@ mod files;
 #[cfg(test)]
 mod locks;
 #[cfg(test)]
+mod order;
+#[cfg(test)]
 mod permits;
 #[cfg(test)]
 mod records;
